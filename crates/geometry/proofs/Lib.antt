@@ -1,0 +1,10 @@
+pub mod Words
+pub mod Members
+pub mod Rects
+pub mod Ranks
+pub mod Heights
+pub mod Search
+pub mod Skylines
+pub mod Update
+pub mod Fitting
+pub mod Theorems

@@ -1,0 +1,61 @@
+use Prim.Native.Nat.{ℕ, _≤_, _<_, _-_}
+use lib.ListN.{length, getD}
+use native.Mathlib.Omega.{arith}
+use Rattle.geometry.proofs.Update.{seek}
+use Rattle.geometry.proofs.skyline_packer.segment_at.Statement.{statement}
+use Rattle.geometry.proofs.skyline_packer.segment_at.Tie as tie
+use Rattle.geometry.proofs.skyline_packer.segment_at.Reads as reads
+use Rattle.geometry.proofs.skyline_packer.segment_at.Lts as lts
+
+abbrev Inv-loop : tie.InvT-loop
+Inv-loop xs ys n cw s j₀ j = (j < n) × (getD xs j 0 ≤ s)
+
+abbrev μ-loop : tie.MeasureT-loop
+μ-loop xs ys n cw s j₀ j = n - j
+
+-- src/lib.rt:157:5
+loop-holds : tie.Need-loop-holds Inv-loop μ-loop
+loop-holds c =
+    let z = c .pre .0 .first in
+    let b = c .pre .1 .1 in
+    (omega arith, omega arith)
+
+-- src/lib.rt:157:11
+mul-if1 : tie.Need-mul-if1 Inv-loop μ-loop
+mul-if1 c = omega arith
+
+-- src/lib.rt:157:11
+shared-slice-read-if1 : tie.Need-shared-slice-read-if1 Inv-loop μ-loop
+shared-slice-read-if1 c = omega arith
+
+-- src/lib.rt:158:9
+add-j : tie.Need-add-j Inv-loop μ-loop
+add-j c = omega arith
+
+-- src/lib.rt:157:5
+loop-less : tie.Need-loop-less Inv-loop μ-loop
+loop-less c = omega arith
+
+-- src/lib.rt:157:5
+loop-again : tie.Need-loop-again Inv-loop μ-loop
+loop-again c =
+    let p = c .before .before .before .pre in
+    seek _ _ _ _ (p .0) _ (p .1) (c .before .before .loop .j) (c .before .before .loop .inv .0) (c .if1 .taken)
+
+-- src/lib.rt:151:1
+returns : tie.Need-returns Inv-loop μ-loop
+returns c = omega arith
+
+pub segment-at-spec : {M : Type 1} → statement M
+segment-at-spec =
+    tie.close
+    (tie.spec
+    Inv-loop
+    μ-loop
+    loop-holds
+    mul-if1
+    shared-slice-read-if1
+    add-j
+    loop-less
+    loop-again
+    returns)

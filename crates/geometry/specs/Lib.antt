@@ -1,0 +1,5 @@
+pub mod Words
+pub mod Rects
+pub mod Placing
+pub mod Fits
+pub mod Skyline
