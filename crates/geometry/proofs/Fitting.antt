@@ -10,13 +10,13 @@ use lib.Dec.{leb, ltb}
 use borrow.Author.Tests.{ltb-true, leb-true, le-leb}
 use Rattle.geometry.specs.Words.{from}
 use Rattle.geometry.specs.Rects.{onSpan, holdsPoint}
-use Rattle.geometry.specs.Placing.{height, isStart, startsFrom, top, lying, spotAt, inside, orientations, fittingAt, candidatesFrom, candidates}
+use Rattle.geometry.specs.Placing.{height, isStart, startsFrom, top, lying, cellAt, spotAt, inside, orientations, fittingAt, candidatesFrom, candidates}
 use Rattle.geometry.specs.Fits.{HasPixels, Fits, Apart, Within, SidesFit}
 use Rattle.geometry.specs.declared.rect.Rect.{Rect}
 use Rattle.geometry.specs.declared.rect.Size.{Size}
-use Rattle.geometry.specs.declared.skyline_packer.Spot.{Spot}
-use Rattle.geometry.specs.declared.skyline_packer.Turn.{Turn}
-use Rattle.geometry.specs.declared.skyline_packer.Turn.the-variants.{Upright, Turned}
+use Rattle.geometry.specs.declared.spot.Spot.{Spot}
+use Rattle.geometry.specs.declared.spot.Turn.{Turn}
+use Rattle.geometry.specs.declared.spot.Turn.the-variants.{Upright, Turned}
 use Rattle.geometry.proofs.Words.{and-left, and-right, both}
 use Rattle.geometry.proofs.Members.{only-in, only-mem, map-in, map-mem, flat-mem, flat-in, from-in, from-mem}
 use Rattle.geometry.proofs.Heights.{under-height, no-height, top-bound, top-least, start-zero}
@@ -33,7 +33,7 @@ inside-down area k e = leb-true _ _ (and-right (leb (k .x + k .w) (area .w)) (le
 
 module _ (f : ℕ → ℕ) (area : Size) (rotation : Bool) (cell : Size) where
   pub candidate-fits : (k : Spot) → List·Memᴰ k (candidates f area rotation cell) → Fits f area rotation cell k
-  unfolding candidatesFrom fittingAt startsFrom spotAt
+  unfolding candidatesFrom fittingAt startsFrom spotAt cellAt
   candidate-fits k m =
       let a = flat-mem (fittingAt f area rotation cell) (startsFrom f (area .w) 0) m in
       let s = a .0 in
@@ -55,7 +55,7 @@ module _ (f : ℕ → ℕ) (area : Size) (rotation : Bool) (cell : Size) where
       }
 
   pub fits-candidate : (k : Spot) → Fits f area rotation cell k → List·Memᴰ k (candidates f area rotation cell)
-  unfolding candidatesFrom fittingAt startsFrom spotAt inside
+  unfolding candidatesFrom fittingAt startsFrom spotAt cellAt inside
   fits-candidate k h =
       let g : Turn → Spot = λ t. spotAt f (area .w) t (lying t cell) (h .start) in
       subst (λ (j : Spot). List·Memᴰ j (candidates f area rotation cell)) (sym (h .is))
@@ -67,7 +67,7 @@ module _ (f : ℕ → ℕ) (area : Size) (rotation : Bool) (cell : Size) where
 -- ## any fit
 
 pub fits-inside : (f : ℕ → ℕ) (area : Size) (rotation : Bool) (cell : Size) (k : Spot) → Fits f area rotation cell k → Within area (k .at)
-unfolding spotAt
+unfolding spotAt cellAt
 fits-inside f area rotation cell k h = subst (λ (j : Spot). Within area (j .at)) (sym (h .is)) (record { across = h .across; down = h .down })
 
 -- the pixel at column x and row y lies in the cell
@@ -91,7 +91,7 @@ on k x y e =
 
 pub fits-apart : (cells : List Rect) (area : Size) (rotation : Bool) (cell : Size) (k : Spot) → Fits (height cells) area rotation cell k
     → (q : Rect) → List·Memᴰ q cells → Apart q (k .at)
-unfolding spotAt
+unfolding spotAt cellAt
 fits-apart cells area rotation cell k h q m x y onq onk =
     let a = on q x y onq in
     let b = on (k .at) x y onk in
@@ -115,7 +115,7 @@ lying-smaller Turned small big l = record { w = l .h; h = l .w }
 
 pub fits-smaller : (f : ℕ → ℕ) (area : Size) (rotation : Bool) (small big : Size) → NoLarger small big
     → (k : Spot) → Fits f area rotation big k → Fits f area rotation small (spotAt f (area .w) (k .turn) (lying (k .turn) small) (k .at .x))
-unfolding spotAt
+unfolding spotAt cellAt
 fits-smaller f area rotation small big le k h =
     let t = h .turn in
     let s = h .start in
@@ -201,7 +201,7 @@ pub record Told (f : ℕ → ℕ) (area : Size) (k : Spot) : Type 0 where
   pub at-top : k .at .y ≡ top f (k .at .x) (k .at .w)
 
 pub told : (f : ℕ → ℕ) (area : Size) (rotation : Bool) (cell : Size) (k : Spot) → HasPixels cell → Fits f area rotation cell k → Told f area k
-unfolding spotAt
+unfolding spotAt cellAt
 told f area rotation cell k p h =
     let q = lying-pixels (h .turn) cell p in
     subst (Told f area) (sym (h .is))

@@ -10,9 +10,9 @@ use borrow.Author.Tests.{ltb-true, eqb-true, lt-ltb, le-ltb, eq-eqb, ne-eqb}
 use Rattle.geometry.specs.Words.{before}
 use Rattle.geometry.specs.Placing.{better, bestOf}
 use Rattle.geometry.specs.Fits.{Picks}
-use Rattle.geometry.specs.declared.skyline_packer.Spot.{Spot}
-use Rattle.geometry.specs.declared.skyline_packer.Found.{Found}
-use Rattle.geometry.specs.declared.skyline_packer.Found.the-variants.{Nothing, At}
+use Rattle.geometry.specs.declared.spot.Spot.{Spot}
+use Rattle.geometry.specs.declared.spot.Found.{Found}
+use Rattle.geometry.specs.declared.spot.Found.the-variants.{Nothing, At}
 
 -- ## lists of numbers, one before the other
 

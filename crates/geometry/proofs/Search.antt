@@ -1,25 +1,27 @@
 -- The search, as the code goes about it: two answers compared, one start tried, one segment after the other. Assumes nothing.
 use Prim.Native.Nat.{ℕ, _+_, _-_, _≤_, _<_, min}
 use mathlib.Core.Path.{_≡_, refl, sym, ap, _∙_}
-use mathlib.Core.Bool.{Bool, true, false, cond, _&&_}
-use mathlib.Core.List.{List, [], _∷_}
+use mathlib.Core.Bool.{Bool, true, false, cond, _&&_, _||_}
+use mathlib.Core.List.{List, [], _∷_, map}
 use native.Mathlib.Omega.{arith}
 use native.Mathlib.Decide.{decLe}
 use lib.Dec.{leb, ltb}
 use borrow.Author.Tests.{le-leb, lt-leb, le-ltb}
 use Rattle.geometry.specs.declared.rect.Rect.{Rect}
 use Rattle.geometry.specs.declared.rect.Size.{Size}
-use Rattle.geometry.specs.declared.skyline_packer.Spot.{Spot}
-use Rattle.geometry.specs.declared.skyline_packer.Found.{Found}
-use Rattle.geometry.specs.declared.skyline_packer.Found.the-variants.{Nothing, At}
-use Rattle.geometry.specs.declared.skyline_packer.Turn.{Turn}
-use Rattle.geometry.specs.declared.skyline_packer.Turn.the-variants.{Upright, Turned}
-use Rattle.geometry.specs.Words.{only, flat, before}
-use Rattle.geometry.specs.Placing.{isStart, startsFrom, segment, top, lying, spotAt, inside, orientations, fittingAt, candidatesFrom, turnNumber, rank, better, bestOf, spotFor, isFound}
+use Rattle.geometry.specs.declared.spot.Spot.{Spot}
+use Rattle.geometry.specs.declared.spot.Found.{Found}
+use Rattle.geometry.specs.declared.spot.Found.the-variants.{Nothing, At}
+use Rattle.geometry.specs.declared.spot.Turn.{Turn}
+use Rattle.geometry.specs.declared.spot.Turn.the-variants.{Upright, Turned}
+use Rattle.geometry.specs.Words.{any, only, flat, before}
+use Rattle.geometry.specs.Placing.{isStart, startsFrom, segment, top, lying, cellAt, spotAt, inside, orientations, fittingAt, candidatesFrom, turnNumber, rank, better, bestOf, spotFor, isFound}
+use Rattle.geometry.specs.Fits.{HasPixels}
 use Rattle.geometry.specs.Skyline.{fitted, choice, lowest}
-use Rattle.geometry.proofs.Words.{and-no-right}
+use Rattle.geometry.proofs.Words.{and-no-left, and-no-right, or-no-left, or-no-right}
 use Rattle.geometry.proofs.Ranks.{before-differ, before-same, before-last, best-append, best-some}
 use Rattle.geometry.proofs.Heights.{starts-run, starts-end}
+use Rattle.geometry.proofs.Fitting.{lying-pixels}
 
 -- ## the rank
 
@@ -104,17 +106,17 @@ choice-lowest area (At j) k tall e = go (decLe (k .at .y + k .at .h) (j .bottom 
         ∙ sym (later (across && leb (k .at .y + k .at .h) (area .h)) (omega arith))
 
 -- what was found stays found
-pub stays-found : (o : Found) (l : List Spot) → isFound o ≡ true → isFound (bestOf rank o l) ≡ true
+stays-found : (o : Found) (l : List Spot) → isFound o ≡ true → isFound (bestOf rank o l) ≡ true
 stays-found Nothing l e = let z : _≡_ {A = ℕ} 0 1 = cc in absurd (omega arith)
 stays-found (At k) l e = ap isFound (best-some rank k l .1)
 
 -- what found nothing leaves the choice to the rest
-pub not-found : (o : Found) (l : List Spot) (r : Found) → isFound o ≡ false → bestOf rank o l ≡ r → bestOf rank Nothing l ≡ r
-not-found Nothing l r e q = q
-not-found (At k) l r e q = let z : _≡_ {A = ℕ} 0 1 = cc in absurd (omega arith)
+not-found : (o : Found) (l : List Spot) → isFound o ≡ false → bestOf rank o l ≡ bestOf rank Nothing l
+not-found Nothing l e = refl
+not-found (At k) l e = let z : _≡_ {A = ℕ} 0 1 = cc in absurd (omega arith)
 
 -- the best of what fits, one more tried
-pub best-one : (area : Size) (o : Found) (k : Spot) (l : List Spot)
+best-one : (area : Size) (o : Found) (k : Spot) (l : List Spot)
     → bestOf rank o (only (λ (j : Spot). inside area (j .at)) (k ∷ l)) ≡ bestOf rank (choice o (fitted area k)) (only (λ (j : Spot). inside area (j .at)) l)
 unfolding bestOf only choice fitted
 best-one area o k l = go (inside area (k .at))
@@ -128,57 +130,148 @@ best-end : (area : Size) (o : Found) → bestOf rank o (only (λ (j : Spot). ins
 unfolding bestOf only
 best-end area o = refl
 
--- ## one start
+-- ## one start, in some orientations
+
+unfitted : (area : Size) (k : Spot) → inside area (k .at) ≡ false → fitted area k ≡ Nothing
+unfolding fitted
+unfitted area k e = rw e
+
+-- there is a best exactly if one fits
+any-found : (area : Size) (g : Turn → Spot) (ts : List Turn)
+    → isFound (bestOf rank Nothing (only (λ (k : Spot). inside area (k .at)) (map g ts))) ≡ any (λ t. inside area (g t .at)) ts
+unfolding any only bestOf better
+any-found area g [] = refl
+any-found area g (t ∷ ts) = go (inside area (g t .at)) (any-found area g ts)
+  where
+    rest : List Spot
+    rest = only (λ (k : Spot). inside area (k .at)) (map g ts)
+
+    go : (b : Bool) → isFound (bestOf rank Nothing rest) ≡ any (λ u. inside area (g u .at)) ts
+        → isFound (bestOf rank Nothing (cond b (g t ∷ rest) rest)) ≡ (b || any (λ u. inside area (g u .at)) ts)
+    go true ih = stays-found (At (g t)) rest refl
+    go false ih = ih
 
 -- the area as far down as what was found leaves it
 abbrev cut : Size → ℕ → Size
 cut area l = record { w = area .w; h = l }
 
+-- none that fits there is no better
+none-better : (area : Size) (o : Found) (l : ℕ) (g : Turn → Spot) (ts : List Turn) → l ≡ lowest (area .h) o
+    → ((t : Turn) → 0 < g t .at .h) → ((t : Turn) → g t .bottom ≡ g t .at .y + g t .at .h - 1)
+    → any (λ t. inside (cut area l) (g t .at)) ts ≡ false → bestOf rank o (only (λ (k : Spot). inside area (k .at)) (map g ts)) ≡ o
+unfolding any choice
+none-better area o l g [] el tall ends e = best-end area o
+none-better area o l g (t ∷ ts) el tall ends e =
+    let out = or-no-left (inside (cut area l) (g t .at)) (any (λ u. inside (cut area l) (g u .at)) ts) e in
+    let same : choice o (fitted area (g t)) ≡ o =
+    sym (choice-lowest area o (g t) (tall t) (ends t)) ∙ ap (λ (m : ℕ). choice o (fitted (cut area m) (g t))) (sym el)
+    ∙ ap (choice o) (unfitted (cut area l) (g t) out) in
+    best-one area o (g t) (map g ts)
+    ∙ ap (λ (q : Found). bestOf rank q (only (λ (k : Spot). inside area (k .at)) (map g ts))) same
+    ∙ none-better area o l g ts el tall ends (or-no-right (inside (cut area l) (g t .at)) (any (λ u. inside (cut area l) (g u .at)) ts) e)
+
 module _ (f : ℕ → ℕ) (area : Size) (rotation : Bool) (cell : Size) (s : ℕ) where
-  one-more : (t : Turn) (size : Size) (o a p : Found) (l : ℕ) → 0 < size .h → a ≡ fitted (cut area l) (spotAt f (area .w) t size s) → l ≡ lowest (area .h) o
-      → p ≡ choice o a → p ≡ choice o (fitted area (spotAt f (area .w) t size s))
-  unfolding spotAt
-  one-more t size o a p l tall ea el ep =
-      ep ∙ ap (choice o) ea ∙ ap (λ (m : ℕ). choice o (fitted (cut area m) (spotAt f (area .w) t size s))) el
-      ∙ choice-lowest area o (spotAt f (area .w) t size s) tall refl
-
-  pub try-upright : (o a p : Found) (l : ℕ) → rotation ≡ false → 0 < cell .h → a ≡ fitted (cut area l) (spotAt f (area .w) Upright cell s) → l ≡ lowest (area .h) o
-      → p ≡ choice o a → p ≡ bestOf rank o (fittingAt f area rotation cell s)
+  pub try-upright : (o a p : Found) → rotation ≡ false → a ≡ fitted area (spotAt f (area .w) Upright cell s) → p ≡ choice o a
+      → p ≡ bestOf rank o (fittingAt f area rotation cell s)
   unfolding fittingAt orientations lying
-  try-upright o a p l t tall ea el ep =
-      let k = spotAt f (area .w) Upright cell s in
-      rw t (one-more Upright cell o a p l tall ea el ep ∙ sym (best-end area (choice o (fitted area k))) ∙ sym (best-one area o k []))
+  try-upright o a p t ea ep =
+      let up = spotAt f (area .w) Upright cell s in
+      rw t (ep ∙ ap (choice o) ea ∙ sym (best-end area (choice o (fitted area up))) ∙ sym (best-one area o up []))
 
-  pub try-turned : (o a p b r : Found) (l m : ℕ) → rotation ≡ true → 0 < cell .w → 0 < cell .h
-      → a ≡ fitted (cut area l) (spotAt f (area .w) Upright cell s) → l ≡ lowest (area .h) o → p ≡ choice o a
-      → b ≡ fitted (cut area m) (spotAt f (area .w) Turned (record { w = cell .h; h = cell .w }) s) → m ≡ lowest (area .h) p → r ≡ choice p b
+  pub try-turned : (o a p b r : Found) → rotation ≡ true → a ≡ fitted area (spotAt f (area .w) Upright cell s) → p ≡ choice o a
+      → b ≡ fitted area (spotAt f (area .w) Turned (record { w = cell .h; h = cell .w }) s) → r ≡ choice p b
       → r ≡ bestOf rank o (fittingAt f area rotation cell s)
   unfolding fittingAt orientations lying
-  try-turned o a p b r l m t wide tall ea el ep eb em er =
-      let side : Size = record { w = cell .h; h = cell .w } in
+  try-turned o a p b r t ea ep eb er =
       let up = spotAt f (area .w) Upright cell s in
-      let over = spotAt f (area .w) Turned side s in
-      rw t (one-more Turned side p b r m wide eb em er
-      ∙ ap (λ (q : Found). choice q (fitted area over)) (one-more Upright cell o a p l tall ea el ep)
-      ∙ sym (best-end area (choice (choice o (fitted area up)) (fitted area over)))
-      ∙ sym (best-one area (choice o (fitted area up)) over [])
-      ∙ sym (best-one area o up (over ∷ [])))
+      let side = spotAt f (area .w) Turned (record { w = cell .h; h = cell .w }) s in
+      rw t (er ∙ ap (choice p) eb ∙ ap (λ (q : Found). choice q (fitted area side)) (ep ∙ ap (choice o) ea)
+      ∙ sym (best-end area (choice (choice o (fitted area up)) (fitted area side)))
+      ∙ sym (best-one area (choice o (fitted area up)) side [])
+      ∙ sym (best-one area o up (side ∷ [])))
 
-module _ (f : ℕ → ℕ) (area : Size) (turn : Turn) (size : Size) (s : ℕ) where
-  pub fit-wide : area .w < s + size .w → Nothing ≡ fitted area (spotAt f (area .w) turn size s)
-  unfolding fitted inside spotAt
-  fit-wide l = simp (lt-leb _ _ l)
+  -- a start with nothing that ends as far up as what was found changes nothing
+  pub try-none : (o : Found) (l : ℕ) → HasPixels cell → l ≡ lowest (area .h) o
+      → any (λ t. inside (cut area l) (cellAt f (lying t cell) s)) (orientations rotation) ≡ false → o ≡ bestOf rank o (fittingAt f area rotation cell s)
+  unfolding fittingAt spotAt cellAt
+  try-none o l some el e =
+      sym (none-better area o l (λ t. spotAt f (area .w) t (lying t cell) s) (orientations rotation) el (λ t. lying-pixels t cell some .tall) (λ t. refl) e)
 
-  pub fit-low : (y k : ℕ) → y ≤ top f s k → k ≡ size .w → area .h < y + size .h → Nothing ≡ fitted area (spotAt f (area .w) turn size s)
-  unfolding fitted inside spotAt
-  fit-low y k p e m =
+  start-found : isFound (bestOf rank Nothing (fittingAt f area rotation cell s)) ≡ any (λ t. inside area (cellAt f (lying t cell) s)) (orientations rotation)
+  unfolding fittingAt spotAt
+  start-found = any-found area (λ t. spotAt f (area .w) t (lying t cell) s) (orientations rotation)
+
+  -- the first start where the cell fits decides whether there is a spot
+  pub start-decides : (l : List Spot) → true ≡ any (λ t. inside area (cellAt f (lying t cell) s)) (orientations rotation)
+      → true ≡ isFound (bestOf rank (bestOf rank Nothing (fittingAt f area rotation cell s)) l)
+  start-decides l e = sym (stays-found _ l (start-found ∙ sym e))
+
+  pub start-leaves : (l : List Spot) → false ≡ any (λ t. inside area (cellAt f (lying t cell) s)) (orientations rotation)
+      → bestOf rank Nothing l ≡ bestOf rank (bestOf rank Nothing (fittingAt f area rotation cell s)) l
+  start-leaves l e = sym (not-found _ l (start-found ∙ sym e))
+
+-- one of the allowed orientations passes a test
+module _ (p : Turn → Bool) (rotation : Bool) where
+  pub any-upright : true ≡ p Upright → true ≡ any p (orientations rotation)
+  unfolding any orientations
+  any-upright e = go rotation
+    where
+      go : (r : Bool) → true ≡ any p (cond r (Upright ∷ Turned ∷ []) (Upright ∷ []))
+      go true = ap (λ (b : Bool). b || (p Turned || false)) e
+      go false = ap (λ (b : Bool). b || false) e
+
+  pub any-turned : rotation ≡ true → false ≡ p Upright → p Turned ≡ any p (orientations rotation)
+  unfolding any orientations
+  any-turned t e = rw (t, sym e) (go (p Turned))
+    where
+      go : (b : Bool) → b ≡ (b || false)
+      go true = refl
+      go false = refl
+
+  pub any-neither : rotation ≡ false → false ≡ p Upright → false ≡ any p (orientations rotation)
+  unfolding any orientations
+  any-neither t e = rw (t, sym e)
+
+-- ## one start, one orientation
+
+module _ (f : ℕ → ℕ) (area : Size) (size : Size) (s : ℕ) where
+  pub outside-wide : area .w < s + size .w → false ≡ inside area (cellAt f size s)
+  unfolding inside cellAt
+  outside-wide l = sym (and-no-left (leb (s + size .w) (area .w)) (leb (top f s (size .w) + size .h) (area .h)) (lt-leb _ _ l))
+
+  pub outside-low : area .h < size .h → false ≡ inside area (cellAt f size s)
+  unfolding inside cellAt
+  outside-low l = sym (and-no-right (leb (s + size .w) (area .w)) (leb (top f s (size .w) + size .h) (area .h)) (lt-leb (top f s (size .w) + size .h) (area .h) (omega arith)))
+
+  pub inside-under : (k : ℕ) → k ≡ size .w → s + size .w ≤ area .w → size .h ≤ area .h
+      → leb (top f s k) (area .h - size .h) ≡ inside area (cellAt f size s)
+  unfolding inside cellAt
+  inside-under k e l m =
+      ap (λ (j : ℕ). leb (top f s j) (area .h - size .h)) e
+      ∙ shift (top f s (size .w)) (size .h) (area .h) m
+      ∙ sym (ap (λ (b : Bool). b && leb (top f s (size .w) + size .h) (area .h)) (le-leb (s + size .w) (area .w) l))
+    where
+      shift : (x y z : ℕ) → y ≤ z → leb x (z - y) ≡ leb (x + y) z
+      shift x y z h = go (decLe x (z - y))
+        where
+          go : Dec (x ≤ z - y) → leb x (z - y) ≡ leb (x + y) z
+          go (yes q) = le-leb x (z - y) q ∙ sym (le-leb (x + y) z (omega arith))
+          go (no q) = lt-leb x (z - y) (omega arith) ∙ sym (lt-leb (x + y) z (omega arith))
+
+  pub not-put : (turn : Turn) → false ≡ inside area (cellAt f size s) → Nothing ≡ fitted area (spotAt f (area .w) turn size s)
+  unfolding spotAt
+  not-put turn e = sym (unfitted area (spotAt f (area .w) turn size s) (sym e))
+
+  pub put-low : (turn : Turn) (y k : ℕ) → y ≡ top f s k → k ≡ size .w → s + size .w ≤ area .w → size .h ≤ area .h → area .h - size .h < y
+      → Nothing ≡ fitted area (spotAt f (area .w) turn size s)
+  put-low turn y k p e l m h =
       let q = ap (top f s) e in
-      rw (and-no-right (leb (s + size .w) (area .w)) (leb (top f s (size .w) + size .h) (area .h)) (lt-leb (top f s (size .w) + size .h) (area .h) (omega arith)))
+      not-put turn (sym (lt-leb (top f s k) (area .h - size .h) (omega arith)) ∙ inside-under k e l m)
 
-  pub fit-here : (y k b g : ℕ) → s + size .w ≤ area .w → y ≡ top f s k → k ≡ size .w → y + size .h ≤ area .h → b ≡ y + size .h - 1 → segment f (area .w) s ≡ g
+  pub put-here : (turn : Turn) (y k b g : ℕ) → s + size .w ≤ area .w → y ≡ top f s k → k ≡ size .w → y + size .h ≤ area .h → b ≡ y + size .h - 1 → segment f (area .w) s ≡ g
       → At (record { at = record { x = s; y = y; w = size .w; h = size .h }; bottom = b; segment = g; turn = turn }) ≡ fitted area (spotAt f (area .w) turn size s)
-  unfolding fitted inside spotAt
-  fit-here y k b g l p e m u r =
+  unfolding fitted inside spotAt cellAt
+  put-here turn y k b g l p e m u r =
       let q : y ≡ top f s (size .w) = p ∙ ap (top f s) e in
       let t : top f s (size .w) + size .h ≤ area .h = omega arith in
       let v : b ≡ top f s (size .w) + size .h - 1 = omega arith in

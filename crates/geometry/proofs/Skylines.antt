@@ -10,9 +10,9 @@ use native.Mathlib.Decide.{ℕ-discrete, decLt}
 use lib.ListN.{length, getD, set, length-set}
 use lib.Seq.{getD-set-same, getD-set-other}
 use Rattle.geometry.specs.declared.rect.Size.{Size}
-use Rattle.geometry.specs.declared.skyline_packer.Found.{Found}
+use Rattle.geometry.specs.declared.spot.Found.{Found}
 use Rattle.geometry.specs.Placing.{height, isStart, segment, top, fittingAt, candidatesFrom, rank, bestOf}
-use Rattle.geometry.specs.Skyline.{Topped, Shape, Level, Starts, Holds}
+use Rattle.geometry.specs.Skyline.{Shape, Level, Starts, Holds}
 use Rattle.geometry.proofs.Heights.{no-height, top-none, top-level, top-bound, start-zero, start-yes, start-no, segment-is}
 use Rattle.geometry.proofs.Search.{search-segment}
 
@@ -27,9 +27,13 @@ module _ (W : ℕ) (xs ys : List ℕ) (n : ℕ) (sh : Shape W xs ys n) where
       go (inl e) = let q = ap (λ (k : ℕ). getD xs k 0) e in let z = sh .last in omega arith
       go (inr r) = r
 
-  pub to-edge : (m i : ℕ) → i + m ≡ n → getD xs i 0 ≤ W
+  to-edge : (m i : ℕ) → i + m ≡ n → getD xs i 0 ≤ W
   to-edge zero i e = let q = ap (λ (k : ℕ). getD xs k 0) e in let z = sh .last in let r : getD xs (i + 0) 0 ≡ getD xs i 0 = ap (λ (k : ℕ). getD xs k 0) (omega arith) in omega arith
   to-edge (suc m) i e = let ih = to-edge m (i + 1) (omega arith) in let r = sh .rises i (omega arith) in omega arith
+
+  -- a segment starts and ends no further than the edge
+  pub in-area : (i : ℕ) → i ≤ n → getD xs i 0 ≤ W
+  in-area i l = to-edge (n - i) i (omega arith)
 
   module _ (f : ℕ → ℕ) (lv : Level f xs ys n) where
     pub seg-start : (i : ℕ) → i < n → isStart f (getD xs i 0) ≡ true
@@ -51,40 +55,33 @@ module _ (W : ℕ) (xs ys : List ℕ) (n : ℕ) (sh : Shape W xs ys n) where
     pub seg-width : (i : ℕ) → i < n → segment f W (getD xs i 0) ≡ getD xs (i + 1) 0 - getD xs i 0
     seg-width i l =
         let up = sh .rises i l in
-        let edge = to-edge (n - (i + 1)) (i + 1) (omega arith) in
+        let edge = in-area (i + 1) (omega arith) in
         segment-is f W (getD xs i 0) (getD xs (i + 1) 0) up edge (λ c p q. seg-inner i c l p q)
         (λ lt. seg-start (i + 1) (before-edge (i + 1) (omega arith) lt))
 
     -- the greatest height from s up to segment j's end, or e, from that up to its start
-    pub top-next : (s j e y y′ : ℕ) → j < n → s ≤ getD xs j 0 → getD xs j 0 < e → y ≡ top f s (min (getD xs j 0) e - s)
-        → y′ ≡ max y (getD ys j 0) → y′ ≡ top f s (min (getD xs (j + 1) 0) e - s)
-    top-next s j e y y′ l sj lt q r =
+    pub top-step : (s j e : ℕ) → j < n → s ≤ getD xs j 0 → getD xs j 0 < e
+        → top f s (min (getD xs (j + 1) 0) e - s) ≡ max (top f s (min (getD xs j 0) e - s)) (getD ys j 0)
+    top-step s j e l sj lt =
         let up = sh .rises j l in
         let more = top-level f s (getD xs j 0) (min (getD xs (j + 1) 0) e) (getD ys j 0) sj (omega arith) (λ c a b. lv j c l a (omega arith)) in
         let m : min (getD xs j 0) e ≡ getD xs j 0 = omega arith in
         let same = ap (λ (k : ℕ). top f s (k - s)) m in
         omega arith
 
-    -- a segment below the cell that is too high
-    pub top-above : (s j e most : ℕ) → j < n → s ≤ getD xs j 0 → getD xs j 0 < e → most < getD ys j 0 → Topped f s (e - s) most (getD ys j 0)
-    top-above s j e most l sj lt m =
+    -- a segment below the cell
+    pub top-over : (s j e : ℕ) → j < n → s ≤ getD xs j 0 → getD xs j 0 < e → getD ys j 0 ≤ top f s (e - s)
+    top-over s j e l sj lt =
         let up = sh .rises j l in
         let v = lv j (getD xs j 0) l (omega arith) up in
         let b = top-bound f (e - s) s (getD xs j 0) sj (omega arith) in
-        record { below = omega arith; exact = λ h. absurd (omega arith) }
-
-    -- all segments below the cell passed
-    pub top-passed : (s j e most y : ℕ) → e ≤ getD xs j 0 → y ≡ top f s (min (getD xs j 0) e - s) → Topped f s (e - s) most y
-    top-passed s j e most y le q =
-        let m : min (getD xs j 0) e ≡ e = omega arith in
-        let is = q ∙ ap (λ (k : ℕ). top f s (k - s)) m in
-        record { below = omega arith; exact = λ h. is }
+        omega arith
 
     pub search-next : (area : Size) (rotation : Bool) (cell : Size) (o p : Found) (i : ℕ) → area .w ≡ W → i < n
         → p ≡ bestOf rank o (fittingAt f area rotation cell (getD xs i 0))
         → bestOf rank p (candidatesFrom f area rotation cell (getD xs (i + 1) 0)) ≡ bestOf rank o (candidatesFrom f area rotation cell (getD xs i 0))
     search-next area rotation cell o p i w l e =
-        let edge = to-edge (n - (i + 1)) (i + 1) (omega arith) in
+        let edge = in-area (i + 1) (omega arith) in
         search-segment f area rotation cell o p (getD xs i 0) (getD xs (i + 1) 0) (sh .rises i l) (omega arith) (seg-start i l)
         (λ c p q. seg-inner i c l p q) e
 
@@ -115,6 +112,10 @@ module _ (W : ℕ) (xs ys : List ℕ) (n : ℕ) (sh : Shape W xs ys n) where
           let t : true ≡ false = sym st ∙ h in
           let z : _≡_ {A = ℕ} 0 1 = cc in
           absurd (omega arith)
+
+-- all segments below a cell passed
+pub top-passed : (f : ℕ → ℕ) (s x e : ℕ) → e ≤ x → top f s (min x e - s) ≡ top f s (e - s)
+top-passed f s x e le = let m : min x e ≡ e = omega arith in ap (λ (k : ℕ). top f s (k - s)) m
 
 -- ## an empty page: one segment, of height 0
 

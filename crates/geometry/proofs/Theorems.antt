@@ -8,16 +8,16 @@ use mathlib.Core.List.{List, [], _∷_, _++_, List·Memᴰ, List·Memᴰ·head, 
 use mathlib.Core.Logic.{_⊎_, inl, inr}
 use lib.ListN.{length}
 use Rattle.geometry.specs.Words.{before}
-use Rattle.geometry.specs.Placing.{height, top, lying, spotAt, orientations, candidates, rank, bestOf, spotFor, isFound, grown}
+use Rattle.geometry.specs.Placing.{height, top, lying, cellAt, spotAt, orientations, candidates, rank, bestOf, spotFor, isFound, grown}
 use Rattle.geometry.specs.Fits.{HasPixels, Fits, Picks, Apart, Within, Filled, empty, put, AllApart, SidesFit}
 use Rattle.geometry.specs.Skyline.{Holds}
 use Rattle.geometry.specs.declared.rect.Rect.{Rect}
 use Rattle.geometry.specs.declared.rect.Size.{Size}
-use Rattle.geometry.specs.declared.skyline_packer.Spot.{Spot}
-use Rattle.geometry.specs.declared.skyline_packer.Found.{Found}
-use Rattle.geometry.specs.declared.skyline_packer.Found.the-variants.{Nothing, At}
-use Rattle.geometry.specs.declared.skyline_packer.Turn.{Turn}
-use Rattle.geometry.specs.declared.skyline_packer.Turn.the-variants.{Upright, Turned}
+use Rattle.geometry.specs.declared.spot.Spot.{Spot}
+use Rattle.geometry.specs.declared.spot.Found.{Found}
+use Rattle.geometry.specs.declared.spot.Found.the-variants.{Nothing, At}
+use Rattle.geometry.specs.declared.spot.Turn.{Turn}
+use Rattle.geometry.specs.declared.spot.Turn.the-variants.{Upright, Turned}
 use Rattle.geometry.proofs.Ranks.{before-same, before-last, best-picks, best-first}
 use Rattle.geometry.proofs.Fitting.{candidate-fits, fits-candidate, fits-inside, fits-apart, NoLarger, fits-smaller, sides-fit, fit-sides, upright-allowed}
 
@@ -106,18 +106,18 @@ module _ (area : Size) (rotation : Bool) where
 
 module _ (f : ℕ → ℕ) (area : Size) (rotation : Bool) (cell : Size) (k : Spot) (chosen : spotFor f area rotation cell ≡ At k) where
   turn-is : k .turn ≡ chosen-fits f area rotation cell k chosen .turn
-  unfolding spotAt
+  unfolding spotAt cellAt
   turn-is = ap (λ (j : Spot). j .turn) (chosen-fits f area rotation cell k chosen .is)
 
   width-is : k .at .w ≡ lying (k .turn) cell .w
-  unfolding spotAt
+  unfolding spotAt cellAt
   width-is =
       let h = chosen-fits f area rotation cell k chosen in
       ap (λ (j : Spot). j .at .w) (h .is) ∙ ap (λ (t : Turn). lying t cell .w) (sym turn-is)
 
   -- a square is never turned
   pub square-upright : cell .w ≡ cell .h → k .turn ≡ Upright
-  unfolding spotAt lying rank
+  unfolding spotAt cellAt lying rank
   square-upright q = go (h .turn) refl
     where
       h : Fits f area rotation cell k

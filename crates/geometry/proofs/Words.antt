@@ -1,7 +1,7 @@
 -- Laws of the words. Assumes nothing.
 use Prim.Native.Nat.{ℕ, zero, suc, _+_, _-_, _≤_, _<_, max}
 use mathlib.Core.Path.{_≡_, refl, sym, ap, _∙_}
-use mathlib.Core.Bool.{Bool, true, false, cond, _&&_}
+use mathlib.Core.Bool.{Bool, true, false, cond, _&&_, _||_}
 use mathlib.Core.List.{List, [], _∷_, _++_}
 use native.Mathlib.Omega.{arith}
 use mathlib.Core.Option.{none, some}
@@ -26,6 +26,14 @@ and-no-left a b p = rw p
 pub and-no-right : (a b : Bool) → b ≡ false → (a && b) ≡ false
 and-no-right true b q = q
 and-no-right false b q = refl
+
+pub or-no-left : (a b : Bool) → (a || b) ≡ false → a ≡ false
+or-no-left true b e = e
+or-no-left false b e = refl
+
+pub or-no-right : (a b : Bool) → (a || b) ≡ false → b ≡ false
+or-no-right true b e = let z : _≡_ {A = ℕ} 0 1 = cc in absurd (omega arith)
+or-no-right false b e = e
 
 -- ## numbers in order
 

@@ -9,10 +9,10 @@ use Rattle.geometry.specs.Rects.{holdsPoint}
 use Rattle.geometry.specs.Placing.{height, isStart, top, lying, spotAt, orientations}
 use Rattle.geometry.specs.declared.rect.Rect.{Rect}
 use Rattle.geometry.specs.declared.rect.Size.{Size}
-use Rattle.geometry.specs.declared.skyline_packer.Spot.{Spot}
-use Rattle.geometry.specs.declared.skyline_packer.Found.{Found}
-use Rattle.geometry.specs.declared.skyline_packer.Found.the-variants.{At}
-use Rattle.geometry.specs.declared.skyline_packer.Turn.{Turn}
+use Rattle.geometry.specs.declared.spot.Spot.{Spot}
+use Rattle.geometry.specs.declared.spot.Found.{Found}
+use Rattle.geometry.specs.declared.spot.Found.the-variants.{At}
+use Rattle.geometry.specs.declared.spot.Turn.{Turn}
 
 -- a cell has at least one pixel
 pub record HasPixels (cell : Size) : Type 0 where

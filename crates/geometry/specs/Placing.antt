@@ -9,11 +9,11 @@ use Rattle.geometry.specs.Words.{from, only, earliest, orElse, greatest,
 use Rattle.geometry.specs.Rects.{onSpan, bottomOf}
 use Rattle.geometry.specs.declared.rect.Rect.{Rect}
 use Rattle.geometry.specs.declared.rect.Size.{Size}
-use Rattle.geometry.specs.declared.skyline_packer.Spot.{Spot}
-use Rattle.geometry.specs.declared.skyline_packer.Found.{Found}
-use Rattle.geometry.specs.declared.skyline_packer.Found.the-variants.{Nothing, At}
-use Rattle.geometry.specs.declared.skyline_packer.Turn.{Turn}
-use Rattle.geometry.specs.declared.skyline_packer.Turn.the-variants.{Upright, Turned}
+use Rattle.geometry.specs.declared.spot.Spot.{Spot}
+use Rattle.geometry.specs.declared.spot.Found.{Found}
+use Rattle.geometry.specs.declared.spot.Found.the-variants.{Nothing, At}
+use Rattle.geometry.specs.declared.spot.Turn.{Turn}
+use Rattle.geometry.specs.declared.spot.Turn.the-variants.{Upright, Turned}
 
 -- the cell covers column x
 abbrev pub covers : ℕ → Rect → Bool
@@ -44,12 +44,16 @@ unfoldable pub lying : Turn → Size → Size
 lying Upright s = s
 lying Turned s = record { w = s .h; h = s .w }
 
--- a cell that lies w by h, at start s
+-- a cell that lies w by h, at start s: y is the greatest height of its columns
+unfoldable pub cellAt : (ℕ → ℕ) → Size → ℕ → Rect
+cellAt heights size s = record { x = s; y = top heights s (size .w); w = size .w; h = size .h }
+
+-- the same with what it is ranked by
 unfoldable pub spotAt : (ℕ → ℕ) → ℕ → Turn → Size → ℕ → Spot
 spotAt heights W turn size s =
     record {
-      at = record { x = s; y = top heights s (size .w); w = size .w; h = size .h };
-      bottom = top heights s (size .w) + size .h - 1;
+      at = cellAt heights size s;
+      bottom = bottomOf (cellAt heights size s);
       segment = segment heights W s;
       turn = turn;
     }

@@ -5,12 +5,12 @@ use mathlib.Core.Path.{_≡_}
 use mathlib.Core.Bool.{Bool, true, false, cond}
 use mathlib.Core.List.{List}
 use lib.ListN.{length, getD}
-use Rattle.geometry.specs.Placing.{height, spotFor, inside, better, rank, grown, top}
+use Rattle.geometry.specs.Placing.{height, spotFor, inside, better, rank, grown}
 use Rattle.geometry.specs.declared.rect.Rect.{Rect}
 use Rattle.geometry.specs.declared.rect.Size.{Size}
-use Rattle.geometry.specs.declared.skyline_packer.Spot.{Spot}
-use Rattle.geometry.specs.declared.skyline_packer.Found.{Found}
-use Rattle.geometry.specs.declared.skyline_packer.Found.the-variants.{Nothing, At}
+use Rattle.geometry.specs.declared.spot.Spot.{Spot}
+use Rattle.geometry.specs.declared.spot.Found.{Found}
+use Rattle.geometry.specs.declared.spot.Found.the-variants.{Nothing, At}
 use Rattle.geometry.specs.declared.skyline_packer.Packed.{Packed}
 
 -- the spot, if it fits
@@ -26,11 +26,6 @@ choice o (At k) = better rank o k
 unfoldable pub lowest : ℕ → Found → ℕ
 lowest H Nothing = H
 lowest H (At k) = min H (k .bottom + 1)
-
--- r is the greatest height of w columns from s on, unless that is above `most`: then r is above `most` too
-pub record Topped (heights : ℕ → ℕ) (s w most r : ℕ) : Type 0 where
-  pub below : r ≤ top heights s w
-  pub exact : r ≤ most → r ≡ top heights s w
 
 -- the segments follow each other from column 0 to column e, none is empty, and neighbours differ in height
 pub record Shape (e : ℕ) (xs ys : List ℕ) (n : ℕ) : Type 0 where

@@ -5,9 +5,9 @@ use native.Mathlib.Omega.{arith}
 use lib.ListN.{length, length-append}
 use denote.Ref.{now}
 use Rattle.geometry.specs.declared.rect.Rect.{Rect}
-use Rattle.geometry.specs.declared.skyline_packer.Spot.{Spot}
-use Rattle.geometry.specs.declared.skyline_packer.Found.{Found}
-use Rattle.geometry.specs.declared.skyline_packer.Found.the-variants.{Nothing, At}
+use Rattle.geometry.specs.declared.spot.Spot.{Spot}
+use Rattle.geometry.specs.declared.spot.Found.{Found}
+use Rattle.geometry.specs.declared.spot.Found.the-variants.{Nothing, At}
 use Rattle.geometry.specs.Placing.{height, grown}
 use Rattle.geometry.specs.Skyline.{Holds, Put}
 use Rattle.geometry.proofs.Heights.{lifted}
@@ -20,7 +20,7 @@ use Rattle.geometry.proofs.skyline_packer.pack.Tie as tie
 use Rattle.geometry.proofs.skyline_packer.pack.Reads as reads
 use Rattle.geometry.proofs.skyline_packer.pack.Lts as lts
 use Rattle.geometry.proofs.skyline_packer.find_skyline.Reads as find-skyline-reads
-use Rattle.geometry.proofs.skyline_packer.split_and_merge.Reads as split-and-merge-reads
+use Rattle.geometry.proofs.skyline.split_and_merge.Reads as split-and-merge-reads
 
 none : (c : tie.After-enum-told) → c .before .before .find-skyline .result ≡ Nothing
 none c = cc

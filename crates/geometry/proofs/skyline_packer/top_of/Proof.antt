@@ -1,66 +1,58 @@
 use Prim.Native.Nat.{ℕ, _≤_, _<_, _-_, min}
-use mathlib.Core.Path.{_≡_}
+use mathlib.Core.Path.{_≡_, _∙_}
 use mathlib.Core.Logic.{⊎-elim}
 use lib.ListN.{length, getD}
 use native.Mathlib.Omega.{arith}
 use Rattle.geometry.specs.Placing.{top}
 use Rattle.geometry.specs.Skyline.{Level}
 use Rattle.geometry.proofs.Heights.{top-none}
-use Rattle.geometry.proofs.Skylines.{top-next, top-above, top-passed, before-edge}
+use Rattle.geometry.proofs.Skylines.{top-step, top-passed, before-edge}
 use Rattle.geometry.proofs.skyline_packer.top_of.Statement.{statement}
 use Rattle.geometry.proofs.skyline_packer.top_of.Tie as tie
 use Rattle.geometry.proofs.skyline_packer.top_of.Reads as reads
 use Rattle.geometry.proofs.skyline_packer.top_of.Lts as lts
 
 abbrev Inv-loop : tie.InvT-loop
-Inv-loop xs ys n i cw e most y₀ j₀ y j =
+Inv-loop xs ys n i cw e y₀ j₀ y j =
     (j ≤ n) × (getD xs i 0 ≤ getD xs j 0)
     × ((f : ℕ → ℕ) → Level f xs ys n → y ≡ top f (getD xs i 0) (min (getD xs j 0) e - getD xs i 0))
 
 abbrev μ-loop : tie.MeasureT-loop
-μ-loop xs ys n i cw e most y₀ j₀ y j = n - j
+μ-loop xs ys n i cw e y₀ j₀ y j = n - j
 
--- src/skyline_packer.rt:117:5
+-- src/skyline_packer.rt:102:5
 loop-holds : tie.Need-loop-holds Inv-loop μ-loop
 loop-holds c = (omega arith, omega arith, λ f lv. top-none f _ _ (omega arith))
 
--- src/skyline_packer.rt:117:11
+-- src/skyline_packer.rt:102:11
 mul-if1 : tie.Need-mul-if1 Inv-loop μ-loop
 mul-if1 c = omega arith
 
--- src/skyline_packer.rt:117:11
+-- src/skyline_packer.rt:102:11
 shared-slice-read-if1 : tie.Need-shared-slice-read-if1 Inv-loop μ-loop
 shared-slice-read-if1 c = omega arith
 
--- src/skyline_packer.rt:118:17
+-- src/skyline_packer.rt:103:17
 mul-v : tie.Need-mul-v Inv-loop μ-loop
 mul-v c = omega arith
 
--- src/skyline_packer.rt:118:17
+-- src/skyline_packer.rt:103:17
 shared-slice-read-v : tie.Need-shared-slice-read-v Inv-loop μ-loop
 shared-slice-read-v c =
     let l = before-edge _ _ _ _ (c .before .before .before .before .pre .0) (c .before .before .before .loop .j) (omega arith) (omega arith) in
     omega arith
 
--- src/skyline_packer.rt:121:17
-returns : tie.Need-returns Inv-loop μ-loop
-returns c f lv =
-    let sh = c .before .before .before .before .before .before .pre .0 in
-    let inv = c .before .before .before .before .before .loop .inv in
-    let l = before-edge _ _ _ _ sh (c .before .before .before .before .before .loop .j) (omega arith) (omega arith) in
-    top-above _ _ _ _ sh f lv _ _ _ _ l (inv .1) (omega arith) (omega arith)
-
--- src/skyline_packer.rt:125:9
+-- src/skyline_packer.rt:107:9
 add-j : tie.Need-add-j Inv-loop μ-loop
 add-j c = omega arith
 
--- src/skyline_packer.rt:117:5
+-- src/skyline_packer.rt:102:5
 loop-less : tie.Need-loop-less Inv-loop μ-loop
 loop-less c =
     let l = before-edge _ _ _ _ (c .before .before .before .before .before .pre .0) (c .before .before .before .before .loop .j) (omega arith) (omega arith) in
     omega arith
 
--- src/skyline_packer.rt:117:5
+-- src/skyline_packer.rt:102:5
 loop-again : tie.Need-loop-again Inv-loop μ-loop
 loop-again c =
     let sh = c .before .before .before .before .before .pre .0 in
@@ -69,13 +61,15 @@ loop-again c =
     let up = sh .rises _ l in (
       omega arith,
       omega arith,
-      λ f lv. top-next _ _ _ _ sh f lv _ _ _ _ _ l (inv .1) (omega arith) (inv .2 f lv)
-          (⊎-elim (λ w. omega arith) (λ w. omega arith) (c .if2 .came)),
+      λ f lv.
+          let step = top-step _ _ _ _ sh f lv (getD (c .before .before .before .before .before .args .xs .now) (c .before .before .before .before .before .args .i) 0) _ (c .before .before .before .before .before .args .e) l (inv .1) (omega arith) in
+          let so = inv .2 f lv in
+          ⊎-elim (λ w. omega arith) (λ w. omega arith) (c .if2 .came),
     )
 
--- src/skyline_packer.rt:109:1
-returns-2 : tie.Need-returns-2 Inv-loop μ-loop
-returns-2 c f lv = top-passed _ _ _ _ (c .before .before .before .pre .0) f lv _ (c .before .before .loop .j) _ _ _ (omega arith) (c .before .before .loop .inv .2 f lv)
+-- src/skyline_packer.rt:94:1
+returns : tie.Need-returns Inv-loop μ-loop
+returns c f lv = c .before .before .loop .inv .2 f lv ∙ top-passed f _ _ _ (omega arith)
 
 pub top-of-spec : {M : Type 1} → statement M
 top-of-spec =
@@ -88,8 +82,7 @@ top-of-spec =
     shared-slice-read-if1
     mul-v
     shared-slice-read-v
-    returns
     add-j
     loop-less
     loop-again
-    returns-2)
+    returns)

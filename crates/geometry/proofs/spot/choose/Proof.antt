@@ -1,10 +1,10 @@
 use borrow.Author.Needs.{needs}
 use Rattle.geometry.proofs.Search.{choice-none, choice-first, choice-new, choice-old}
-use Rattle.geometry.proofs.skyline_packer.choose.Statement.{statement}
-use Rattle.geometry.proofs.skyline_packer.choose.Tie as tie
-use Rattle.geometry.proofs.skyline_packer.choose.Reads as reads
-use Rattle.geometry.proofs.skyline_packer.choose.Lts as lts
-use Rattle.geometry.proofs.skyline_packer.ranks_before.Reads as ranks-before-reads
+use Rattle.geometry.proofs.spot.choose.Statement.{statement}
+use Rattle.geometry.proofs.spot.choose.Tie as tie
+use Rattle.geometry.proofs.spot.choose.Reads as reads
+use Rattle.geometry.proofs.spot.choose.Lts as lts
+use Rattle.geometry.proofs.spot.ranks_before.Reads as ranks-before-reads
 
 -- src/lib.rt:78:27
 enum-told : tie.Need-enum-told

@@ -5,10 +5,10 @@ use native.Mathlib.Omega.{arith}
 use lib.ListN.{getD}
 use Rattle.geometry.proofs.Update.{push-merge, push-new}
 use borrow.Author.Needs.{needs}
-use Rattle.geometry.proofs.skyline_packer.push.Statement.{statement}
-use Rattle.geometry.proofs.skyline_packer.push.Tie as tie
-use Rattle.geometry.proofs.skyline_packer.push.Reads as reads
-use Rattle.geometry.proofs.skyline_packer.push.Lts as lts
+use Rattle.geometry.proofs.skyline.push.Statement.{statement}
+use Rattle.geometry.proofs.skyline.push.Tie as tie
+use Rattle.geometry.proofs.skyline.push.Reads as reads
+use Rattle.geometry.proofs.skyline.push.Lts as lts
 
 -- src/lib.rt:140:15
 sub-if2 : tie.Need-sub-if2

@@ -2,11 +2,11 @@ use Prim.Native.Nat.{_≤_, _<_}
 use mathlib.Core.Path.{_≡_, refl}
 use native.Mathlib.Omega.{arith}
 use borrow.Author.Needs.{needs}
-use Rattle.geometry.proofs.skyline_packer.keep.Statement.{statement}
-use Rattle.geometry.proofs.skyline_packer.keep.Tie as tie
-use Rattle.geometry.proofs.skyline_packer.keep.Reads as reads
-use Rattle.geometry.proofs.skyline_packer.keep.Lts as lts
-use Rattle.geometry.proofs.skyline_packer.push.Reads as push-reads
+use Rattle.geometry.proofs.skyline.keep.Statement.{statement}
+use Rattle.geometry.proofs.skyline.keep.Tie as tie
+use Rattle.geometry.proofs.skyline.keep.Reads as reads
+use Rattle.geometry.proofs.skyline.keep.Lts as lts
+use Rattle.geometry.proofs.skyline.push.Reads as push-reads
 
 -- src/lib.rt:171:9
 push-requires : tie.Need-push-requires

@@ -1,10 +1,10 @@
 use borrow.Author.Needs.{needs}
 use Rattle.geometry.proofs.Search.{rank-bottom, rank-segment, rank-start, rank-turn}
-use Rattle.geometry.proofs.skyline_packer.ranks_before.Statement.{statement}
-use Rattle.geometry.proofs.skyline_packer.ranks_before.Tie as tie
-use Rattle.geometry.proofs.skyline_packer.ranks_before.Reads as reads
-use Rattle.geometry.proofs.skyline_packer.ranks_before.Lts as lts
-use Rattle.geometry.proofs.skyline_packer.turn_number.Reads as turn-number-reads
+use Rattle.geometry.proofs.spot.ranks_before.Statement.{statement}
+use Rattle.geometry.proofs.spot.ranks_before.Tie as tie
+use Rattle.geometry.proofs.spot.ranks_before.Reads as reads
+use Rattle.geometry.proofs.spot.ranks_before.Lts as lts
+use Rattle.geometry.proofs.spot.turn_number.Reads as turn-number-reads
 
 -- src/lib.rt:60:9
 returns : tie.Need-returns

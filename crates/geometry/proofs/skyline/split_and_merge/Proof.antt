@@ -6,13 +6,13 @@ use denote.Ref.{now}
 use Rattle.geometry.specs.Skyline.{Walked}
 use Rattle.geometry.proofs.Update.{cut, walk-first}
 use borrow.Author.Needs.{needs}
-use Rattle.geometry.proofs.skyline_packer.split_and_merge.Statement.{statement}
-use Rattle.geometry.proofs.skyline_packer.split_and_merge.Tie as tie
-use Rattle.geometry.proofs.skyline_packer.split_and_merge.Reads as reads
-use Rattle.geometry.proofs.skyline_packer.split_and_merge.Lts as lts
-use Rattle.geometry.proofs.skyline_packer.keep_rest.Reads as keep-rest-reads
-use Rattle.geometry.proofs.skyline_packer.push.Reads as push-reads
-use Rattle.geometry.proofs.skyline_packer.segment_at.Reads as segment-at-reads
+use Rattle.geometry.proofs.skyline.split_and_merge.Statement.{statement}
+use Rattle.geometry.proofs.skyline.split_and_merge.Tie as tie
+use Rattle.geometry.proofs.skyline.split_and_merge.Reads as reads
+use Rattle.geometry.proofs.skyline.split_and_merge.Lts as lts
+use Rattle.geometry.proofs.skyline.keep_rest.Reads as keep-rest-reads
+use Rattle.geometry.proofs.skyline.push.Reads as push-reads
+use Rattle.geometry.proofs.skyline.segment_at.Reads as segment-at-reads
 
 abbrev start : tie.After-push → tie.Start
 start c = c .before .before .before .before .before .before .before .before .before .before

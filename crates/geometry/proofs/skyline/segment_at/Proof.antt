@@ -2,10 +2,10 @@ use Prim.Native.Nat.{ℕ, _≤_, _<_, _-_}
 use lib.ListN.{length, getD}
 use native.Mathlib.Omega.{arith}
 use Rattle.geometry.proofs.Update.{seek}
-use Rattle.geometry.proofs.skyline_packer.segment_at.Statement.{statement}
-use Rattle.geometry.proofs.skyline_packer.segment_at.Tie as tie
-use Rattle.geometry.proofs.skyline_packer.segment_at.Reads as reads
-use Rattle.geometry.proofs.skyline_packer.segment_at.Lts as lts
+use Rattle.geometry.proofs.skyline.segment_at.Statement.{statement}
+use Rattle.geometry.proofs.skyline.segment_at.Tie as tie
+use Rattle.geometry.proofs.skyline.segment_at.Reads as reads
+use Rattle.geometry.proofs.skyline.segment_at.Lts as lts
 
 abbrev Inv-loop : tie.InvT-loop
 Inv-loop xs ys n cw s j₀ j = (j < n) × (getD xs j 0 ≤ s)

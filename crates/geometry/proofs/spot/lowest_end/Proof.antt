@@ -1,10 +1,10 @@
 use native.Mathlib.Omega.{arith}
 use Rattle.geometry.proofs.Search.{lowest-none, lowest-above, lowest-edge}
 use borrow.Author.Needs.{needs}
-use Rattle.geometry.proofs.skyline_packer.lowest_end.Statement.{statement}
-use Rattle.geometry.proofs.skyline_packer.lowest_end.Tie as tie
-use Rattle.geometry.proofs.skyline_packer.lowest_end.Reads as reads
-use Rattle.geometry.proofs.skyline_packer.lowest_end.Lts as lts
+use Rattle.geometry.proofs.spot.lowest_end.Statement.{statement}
+use Rattle.geometry.proofs.spot.lowest_end.Tie as tie
+use Rattle.geometry.proofs.spot.lowest_end.Reads as reads
+use Rattle.geometry.proofs.spot.lowest_end.Lts as lts
 
 -- src/skyline_packer.rt:103:27
 enum-told : tie.Need-enum-told

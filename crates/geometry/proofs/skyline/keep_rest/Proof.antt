@@ -5,11 +5,11 @@ use lib.ListN.{length, getD}
 use native.Mathlib.Omega.{arith}
 use Rattle.geometry.specs.Skyline.{Walked}
 use Rattle.geometry.proofs.Update.{walk-left, walk-edge, walk-next, walk-done}
-use Rattle.geometry.proofs.skyline_packer.keep_rest.Statement.{statement}
-use Rattle.geometry.proofs.skyline_packer.keep_rest.Tie as tie
-use Rattle.geometry.proofs.skyline_packer.keep_rest.Reads as reads
-use Rattle.geometry.proofs.skyline_packer.keep_rest.Lts as lts
-use Rattle.geometry.proofs.skyline_packer.keep.Reads as keep-reads
+use Rattle.geometry.proofs.skyline.keep_rest.Statement.{statement}
+use Rattle.geometry.proofs.skyline.keep_rest.Tie as tie
+use Rattle.geometry.proofs.skyline.keep_rest.Reads as reads
+use Rattle.geometry.proofs.skyline.keep_rest.Lts as lts
+use Rattle.geometry.proofs.skyline.keep.Reads as keep-reads
 
 abbrev Inv-loop : tie.InvT-loop
 Inv-loop xs₀ ys₀ n from count height end e j₀ k₀ y₀ x₀ xs ys j k y x =

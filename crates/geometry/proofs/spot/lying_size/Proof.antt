@@ -1,9 +1,9 @@
 use Rattle.geometry.specs.Placing.{lying}
 use borrow.Author.Needs.{needs}
-use Rattle.geometry.proofs.skyline_packer.lying_size.Statement.{statement}
-use Rattle.geometry.proofs.skyline_packer.lying_size.Tie as tie
-use Rattle.geometry.proofs.skyline_packer.lying_size.Reads as reads
-use Rattle.geometry.proofs.skyline_packer.lying_size.Lts as lts
+use Rattle.geometry.proofs.spot.lying_size.Statement.{statement}
+use Rattle.geometry.proofs.spot.lying_size.Tie as tie
+use Rattle.geometry.proofs.spot.lying_size.Reads as reads
+use Rattle.geometry.proofs.spot.lying_size.Lts as lts
 
 -- src/skyline_packer.rt:54:26
 enum-told : tie.Need-enum-told
