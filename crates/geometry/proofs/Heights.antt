@@ -1,19 +1,19 @@
 -- Laws of heights: the greatest of some columns, starts, segments, and what a new cell does to them. Assumes nothing.
 use Prim.Native.Nat.{ℕ, zero, suc, _+_, _-_, _≤_, _<_, max}
 use mathlib.Core.Path.{_≡_, refl, sym, ap, _∙_}
-use mathlib.Core.Bool.{Bool, true, false, not, cond, _&&_, _||_}
+use mathlib.Core.Bool.{Bool, true, false, cond}
 use mathlib.Core.List.{List, [], _∷_, _++_, List·Memᴰ}
 use mathlib.Core.Logic.{_⊎_, inl, inr}
 use mathlib.Core.Option.{Option, none, some}
 use native.Mathlib.Nat.{eq-or-lt-of-le}
 use native.Mathlib.Omega.{arith}
-use lib.Dec.{leb, ltb, eqb}
+use lib.Dec.{leb, ltb}
 use borrow.Author.Tests.{lt-ltb, le-ltb, le-leb, lt-leb, eq-eqb, ne-eqb}
 use Rattle.geometry.specs.declared.rect.Rect.{Rect}
 use Rattle.geometry.specs.Words.{from, only, earliest, orElse, greatest}
 use Rattle.geometry.specs.Rects.{onSpan, bottomOf}
 use Rattle.geometry.specs.Placing.{covers, height, isStart, startsFrom, segment, top}
-use Rattle.geometry.specs.Skyline.{Lifted}
+use Rattle.geometry.specs.Fits.{Lifted}
 use Rattle.geometry.proofs.Words.{both, and-no-left, and-no-right, from-none, from-more, only-run, only-append, greatest-append, earliest-at, earliest-none}
 use Rattle.geometry.proofs.Members.{only-in, greatest-le}
 

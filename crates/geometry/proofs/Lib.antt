@@ -3,8 +3,7 @@ pub mod Members
 pub mod Rects
 pub mod Ranks
 pub mod Heights
-pub mod Search
-pub mod Skylines
-pub mod Update
+pub mod Choices
 pub mod Fitting
 pub mod Theorems
+pub mod Table

@@ -1,16 +1,14 @@
 -- What holds of placing on one page, each under the sentence of document 01 that it carries. The crates above cite these.
 -- Assumes nothing.
-use Prim.Native.Nat.{ℕ, _+_, _-_, _≤_, _<_}
+use Prim.Native.Nat.{ℕ, _+_, _-_, _≤_}
 use native.Mathlib.Omega.{arith}
 use mathlib.Core.Path.{_≡_, refl, sym, _∙_, ap, subst}
-use mathlib.Core.Bool.{Bool, true, false}
+use mathlib.Core.Bool.{Bool, true}
 use mathlib.Core.List.{List, [], _∷_, _++_, List·Memᴰ, List·Memᴰ·head, List·Memᴰ·tail, List·Memᴰ·not-nil, List·Memᴰ·append-cases, List·Memᴰ·eq-of-singleton}
 use mathlib.Core.Logic.{_⊎_, inl, inr}
-use lib.ListN.{length}
 use Rattle.geometry.specs.Words.{before}
-use Rattle.geometry.specs.Placing.{height, top, lying, cellAt, spotAt, orientations, candidates, rank, bestOf, spotFor, isFound, grown}
+use Rattle.geometry.specs.Placing.{height, top, lying, cellAt, spotAt, orientations, candidates, rank, bestOf, spotFor, grown}
 use Rattle.geometry.specs.Fits.{HasPixels, Fits, Picks, Apart, Within, Filled, empty, put, AllApart, SidesFit}
-use Rattle.geometry.specs.Skyline.{Holds}
 use Rattle.geometry.specs.declared.rect.Rect.{Rect}
 use Rattle.geometry.specs.declared.rect.Size.{Size}
 use Rattle.geometry.specs.declared.spot.Spot.{Spot}
@@ -157,8 +155,3 @@ module _ (f : ℕ → ℕ) (area : Size) (rotation : Bool) (cell : Size) (k : Sp
   pub upright-same : k .turn ≡ Upright → k .at .w ≡ cell .w
   unfolding lying
   upright-same t = width-is ∙ ap (λ (u : Turn). lying u cell .w) t
-
--- ## "A page with n images has at most n+1 segments, so it never overflows."
-
-pub few-segments : (W : ℕ) (cells : List Rect) (xs ys : List ℕ) (n : ℕ) → Holds W cells xs ys n → n ≤ length cells + 1
-few-segments W cells xs ys n h = h .few

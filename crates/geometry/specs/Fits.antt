@@ -59,3 +59,9 @@ AllApart (k ∷ ks) = ((q : Rect) → List·Memᴰ q ks → Apart k q) × AllApa
 abbrev pub SidesFit : Size → Bool → Size → Type 0
 SidesFit area rotation cell =
     ((cell .w ≤ area .w) × (cell .h ≤ area .h)) ⊎ ((rotation ≡ true) × (cell .h ≤ area .w) × (cell .w ≤ area .h))
+
+-- g is f with the columns from s up to e at height t
+pub record Lifted (f g : ℕ → ℕ) (s e t : ℕ) : Type 0 where
+  pub left : (c : ℕ) → c < s → g c ≡ f c
+  pub here : (c : ℕ) → s ≤ c → c < e → g c ≡ t
+  pub right : (c : ℕ) → e ≤ c → g c ≡ f c

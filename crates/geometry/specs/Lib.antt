@@ -2,4 +2,5 @@ pub mod Words
 pub mod Rects
 pub mod Placing
 pub mod Fits
-pub mod Skyline
+pub mod Choice
+pub mod Table

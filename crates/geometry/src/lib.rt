@@ -1,5 +1,3 @@
-// Where a cell goes on one page.
+// Where a cell goes on one page: rectangles, and the better of two places.
 pub mod rect;
-mod skyline;
-pub mod skyline_packer;
 pub mod spot;

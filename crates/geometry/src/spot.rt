@@ -2,7 +2,7 @@
 ghost use mathlib.Core.Path.{_≡_};
 ghost use Rattle.geometry.specs.Words.{before};
 ghost use Rattle.geometry.specs.Placing.{turnNumber, rank, lying, isFound};
-ghost use Rattle.geometry.specs.Skyline.{choice, lowest};
+ghost use Rattle.geometry.specs.Choice.{choice, lowest};
 use crate::rect::Rect;
 use crate::rect::Size;
 

@@ -2,14 +2,10 @@ use native.Mathlib.Omega.{arith}
 use Rattle.geometry.proofs.Rects.{span-before, span-from}
 use Rattle.geometry.proofs.rect.on_span.Statement.{statement}
 use Rattle.geometry.proofs.rect.on_span.Tie as tie
-use Rattle.geometry.proofs.rect.on_span.Reads as reads
-use Rattle.geometry.proofs.rect.on_span.Lts as lts
 
--- src/rect.rt:37:9
 returns : tie.Need-returns
 returns c = span-before _ _ _ (omega arith)
 
--- src/rect.rt:33:1
 returns-2 : tie.Need-returns-2
 returns-2 c = span-from _ _ _ (omega arith)
 

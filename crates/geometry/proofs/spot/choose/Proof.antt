@@ -1,47 +1,35 @@
 use borrow.Author.Needs.{needs}
-use Rattle.geometry.proofs.Search.{choice-none, choice-first, choice-new, choice-old}
+use Rattle.geometry.proofs.Choices.{choice-none, choice-first, choice-new, choice-old}
 use Rattle.geometry.proofs.spot.choose.Statement.{statement}
 use Rattle.geometry.proofs.spot.choose.Tie as tie
-use Rattle.geometry.proofs.spot.choose.Reads as reads
-use Rattle.geometry.proofs.spot.choose.Lts as lts
-use Rattle.geometry.proofs.spot.ranks_before.Reads as ranks-before-reads
 
--- src/lib.rt:78:27
 enum-told : tie.Need-enum-told
 enum-told c = search needs
 
--- src/lib.rt:79:19
 enum-known-b : tie.Need-enum-known-b
 enum-known-b c = search needs
 
--- src/lib.rt:80:31
 enum-told-2 : tie.Need-enum-told-2
 enum-told-2 c = search needs
 
--- src/lib.rt:81:23
 enum-known-a : tie.Need-enum-known-a
 enum-known-a c = search needs
 
--- src/lib.rt:81:34
 ranks-before-requires : tie.Need-ranks-before-requires
 ranks-before-requires c κs = search needs
 
--- src/lib.rt:74:1
 returns : tie.Need-returns
 returns c = cc (choice-none (c .before .before .args .a))
 
--- src/lib.rt:74:1
 returns-2 : tie.Need-returns-2
 returns-2 c = cc (choice-first (c .before .before .before .b .given .0 .0))
 
--- src/lib.rt:74:1
 returns-3 : tie.Need-returns-3
 returns-3 c =
     let k = c .before .before .before .before .before .before .b .given .0 .0 in
     let j = c .before .before .before .a .given .0 .0 in
     cc (choice-new j k (cc))
 
--- src/lib.rt:74:1
 returns-4 : tie.Need-returns-4
 returns-4 c =
     let k = c .before .before .before .before .before .before .b .given .0 .0 in

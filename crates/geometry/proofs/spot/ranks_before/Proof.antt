@@ -1,32 +1,23 @@
 use borrow.Author.Needs.{needs}
-use Rattle.geometry.proofs.Search.{rank-bottom, rank-segment, rank-start, rank-turn}
+use Rattle.geometry.proofs.Choices.{rank-bottom, rank-segment, rank-start, rank-turn}
 use Rattle.geometry.proofs.spot.ranks_before.Statement.{statement}
 use Rattle.geometry.proofs.spot.ranks_before.Tie as tie
-use Rattle.geometry.proofs.spot.ranks_before.Reads as reads
-use Rattle.geometry.proofs.spot.ranks_before.Lts as lts
-use Rattle.geometry.proofs.spot.turn_number.Reads as turn-number-reads
 
--- src/lib.rt:60:9
 returns : tie.Need-returns
 returns c = rank-bottom _ _ (c .before .before .if1 .taken)
 
--- src/lib.rt:63:9
 returns-2 : tie.Need-returns-2
 returns-2 c = rank-segment _ _ (search needs) (search needs)
 
--- src/lib.rt:66:9
 returns-3 : tie.Need-returns-3
 returns-3 c = rank-start _ _ (search needs) (search needs) (search needs)
 
--- src/lib.rt:70:5
 turn-number-requires : tie.Need-turn-number-requires
 turn-number-requires c κs = search needs
 
--- src/lib.rt:70:22
 turn-number-requires-2 : tie.Need-turn-number-requires-2
 turn-number-requires-2 c κs = search needs
 
--- src/lib.rt:56:1
 returns-4 : tie.Need-returns-4
 returns-4 c = rank-turn _ _ _ _ (search needs) (search needs) (search needs) (c .before .turn-number .ensures) (c .turn-number2 .ensures)
 

@@ -3,23 +3,16 @@ use Rattle.geometry.proofs.Rects.{product-fits}
 use borrow.Author.Needs.{needs}
 use Rattle.geometry.proofs.rect.Rect.area.Statement.{statement}
 use Rattle.geometry.proofs.rect.Rect.area.Tie as tie
-use Rattle.geometry.proofs.rect.Rect.area.Reads as reads
-use Rattle.geometry.proofs.rect.Rect.area.Lts as lts
-use Rattle.geometry.proofs.rect.wide.Reads as wide-reads
 
--- src/rect.rt:107:9
 wide-requires : tie.Need-wide-requires
 wide-requires c κs = search needs
 
--- src/rect.rt:107:24
 wide-requires-2 : tie.Need-wide-requires-2
 wide-requires-2 c κs = search needs
 
--- src/rect.rt:107:9
 mul-result : tie.Need-mul-result
 mul-result c = record { fits = product-fits _ _ (omega arith) (omega arith) }
 
--- src/rect.rt:104:5
 returns : tie.Need-returns
 returns c = cc
 

@@ -2,19 +2,13 @@ use Rattle.geometry.specs.Rects.{holdsRect}
 use borrow.Author.Needs.{needs}
 use Rattle.geometry.proofs.rect.Rect.contains.Statement.{statement}
 use Rattle.geometry.proofs.rect.Rect.contains.Tie as tie
-use Rattle.geometry.proofs.rect.Rect.contains.Reads as reads
-use Rattle.geometry.proofs.rect.Rect.contains.Lts as lts
-use Rattle.geometry.proofs.rect.in_span.Reads as in-span-reads
 
--- src/rect.rt:113:9
 in-span-requires : tie.Need-in-span-requires
 in-span-requires c κs = search needs
 
--- src/rect.rt:113:53
 in-span-requires-2 : tie.Need-in-span-requires-2
 in-span-requires-2 c κs = search needs
 
--- src/rect.rt:110:5
 returns : tie.Need-returns
 unfolding holdsRect
 returns c = cc

@@ -1,0 +1,4 @@
+pub mod Search
+pub mod Skylines
+pub mod Update
+pub mod Theorems
