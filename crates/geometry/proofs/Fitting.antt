@@ -6,10 +6,9 @@ use mathlib.Core.Path.{_≡_, refl, sym, _∙_, ap, subst}
 use mathlib.Core.Bool.{Bool, true, false}
 use mathlib.Core.List.{List, [], map, List·Memᴰ, List·Memᴰ·head, List·Memᴰ·tail, List·Memᴰ·eq-of-singleton}
 use mathlib.Core.Logic.{inl, inr}
-use lib.Dec.{leb, ltb}
-use borrow.Author.Tests.{ltb-true, leb-true, le-leb}
+use lib.Dec.{leb}
+use borrow.Author.Tests.{leb-true, le-leb}
 use Rattle.geometry.specs.Words.{from}
-use Rattle.geometry.specs.Rects.{onSpan, holdsPoint}
 use Rattle.geometry.specs.Placing.{height, isStart, startsFrom, top, lying, cellAt, spotAt, inside, orientations, fittingAt, candidatesFrom, candidates}
 use Rattle.geometry.specs.Fits.{HasPixels, Fits, Apart, Within, SidesFit}
 use Rattle.geometry.specs.declared.rect.Rect.{Rect}
@@ -18,6 +17,7 @@ use Rattle.geometry.specs.declared.spot.Spot.{Spot}
 use Rattle.geometry.specs.declared.spot.Turn.{Turn}
 use Rattle.geometry.specs.declared.spot.Turn.the-variants.{Upright, Turned}
 use Rattle.geometry.proofs.Words.{and-left, and-right, both}
+use Rattle.geometry.proofs.Rects.{in-point}
 use Rattle.geometry.proofs.Members.{only-in, only-mem, map-in, map-mem, flat-mem, flat-in, from-in, from-mem}
 use Rattle.geometry.proofs.Heights.{under-height, no-height, top-bound, top-least, start-zero}
 
@@ -70,31 +70,12 @@ pub fits-inside : (f : ℕ → ℕ) (area : Size) (rotation : Bool) (cell : Size
 unfolding spotAt cellAt
 fits-inside f area rotation cell k h = subst (λ (j : Spot). Within area (j .at)) (sym (h .is)) (record { across = h .across; down = h .down })
 
--- the pixel at column x and row y lies in the cell
-record On (k : Rect) (x y : ℕ) : Type 0 where
-  left : k .x ≤ x
-  right : x < k .x + k .w
-  top : k .y ≤ y
-  bottom : y < k .y + k .h
-
-on : (k : Rect) (x y : ℕ) → holdsPoint k x y ≡ true → On k x y
-unfolding holdsPoint onSpan
-on k x y e =
-    let a = and-left (onSpan (k .x) (k .w) x) (onSpan (k .y) (k .h) y) e in
-    let b = and-right (onSpan (k .x) (k .w) x) (onSpan (k .y) (k .h) y) e in
-    record {
-      left = leb-true _ _ (and-left (leb (k .x) x) (ltb x (k .x + k .w)) a);
-      right = ltb-true _ _ (and-right (leb (k .x) x) (ltb x (k .x + k .w)) a);
-      top = leb-true _ _ (and-left (leb (k .y) y) (ltb y (k .y + k .h)) b);
-      bottom = ltb-true _ _ (and-right (leb (k .y) y) (ltb y (k .y + k .h)) b);
-    }
-
 pub fits-apart : (cells : List Rect) (area : Size) (rotation : Bool) (cell : Size) (k : Spot) → Fits (height cells) area rotation cell k
     → (q : Rect) → List·Memᴰ q cells → Apart q (k .at)
 unfolding spotAt cellAt
 fits-apart cells area rotation cell k h q m x y onq onk =
-    let a = on q x y onq in
-    let b = on (k .at) x y onk in
+    let a = in-point q x y onq in
+    let b = in-point (k .at) x y onk in
     let sz = lying (h .turn) cell in
     let ex = ap (λ (j : Spot). j .at .x) (h .is) in
     let ew = ap (λ (j : Spot). j .at .w) (h .is) in

@@ -10,6 +10,7 @@ use borrow.Author.Tests.{ltb-true, eqb-true, lt-ltb, le-ltb, eq-eqb, ne-eqb}
 use Rattle.geometry.specs.Words.{before}
 use Rattle.geometry.specs.Placing.{better, bestOf}
 use Rattle.geometry.specs.Fits.{Picks}
+use Rattle.geometry.proofs.Words.{not-both}
 use Rattle.geometry.specs.declared.spot.Spot.{Spot}
 use Rattle.geometry.specs.declared.spot.Found.{Found}
 use Rattle.geometry.specs.declared.spot.Found.the-variants.{Nothing, At}
@@ -70,9 +71,6 @@ before-trans (a ∷ p) (b ∷ q) (d ∷ r) h k = go (leads a b p q h) (leads b d
     go (inl x) (inr (y, z)) ih = led a d p r (inl (omega arith))
     go (inr (x, z)) (inl y) ih = led a d p r (inl (omega arith))
     go (inr (x, z)) (inr (y, w)) ih = led a d p r (inr (x ∙ y, ih z w))
-
-not-both : (b : Bool) → b ≡ true → b ≡ false → ⊥
-not-both b p q = let z : _≡_ {A = ℕ} 0 1 = cc in omega arith
 
 module _ (order : Spot → List ℕ) where
   abbrev NotBefore : Spot → Spot → Type 0
@@ -138,12 +136,12 @@ module _ (order : Spot → List ℕ) where
   unfolding better
   first-new Nothing k m e =
       let z : k ≡ m = cc in
-      λ w. not-both (before (order k) (order k)) (ap (λ (x : Spot). before (order k) (order x)) z ∙ w) (before-never (order k))
+      λ w. not-both (ap (λ (x : Spot). before (order k) (order x)) z ∙ w) (before-never (order k))
   first-new (At i) k m e = go (before (order k) (order i)) refl e
     where
       go : (b : Bool) → before (order k) (order i) ≡ b → At (cond b k i) ≡ At m → NotBefore k m
-      go true eb q = let z : k ≡ m = cc in λ w. not-both (before (order k) (order k)) (ap (λ (x : Spot). before (order k) (order x)) z ∙ w) (before-never (order k))
-      go false eb q = let z : i ≡ m = cc in λ w. not-both (before (order k) (order i)) (ap (λ (x : Spot). before (order k) (order x)) z ∙ w) eb
+      go true eb q = let z : k ≡ m = cc in λ w. not-both (ap (λ (x : Spot). before (order k) (order x)) z ∙ w) (before-never (order k))
+      go false eb q = let z : i ≡ m = cc in λ w. not-both (ap (λ (x : Spot). before (order k) (order x)) z ∙ w) eb
 
   first-on : (i : Spot) (l : List Spot) (j m : Spot) → bestOf order (At i) l ≡ At m → NotBefore j i → NotBefore j m
   unfolding bestOf better

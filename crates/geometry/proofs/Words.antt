@@ -9,6 +9,9 @@ use Rattle.geometry.specs.Words.{from, only, earliest, greatest}
 
 -- ## tests
 
+pub not-both : {b : Bool} → b ≡ true → b ≡ false → ⊥
+not-both p q = let z : true ≡ false = sym p ∙ q in let y : _≡_ {A = ℕ} 0 1 = cc in omega arith
+
 pub and-left : (a b : Bool) → (a && b) ≡ true → a ≡ true
 and-left true b e = refl
 and-left false b e = e

@@ -1,0 +1,4 @@
+pub mod Stores
+pub mod Trimming
+pub mod Search
+pub mod Table
