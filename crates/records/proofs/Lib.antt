@@ -1,0 +1,10 @@
+pub mod Rows
+pub mod Checks
+pub mod Standing
+pub mod Keys
+pub mod Pages
+pub mod Codes
+pub mod Answers
+pub mod Layouts
+pub mod Theorems
+pub mod Table

@@ -1,0 +1,12 @@
+pub mod Blanks
+pub mod Rows
+pub mod Pages
+pub mod Accepted
+pub mod Answers
+pub mod Steps
+pub mod Standing
+pub mod Sound
+pub mod Story
+pub mod Undo
+pub mod Theorems
+pub mod Table

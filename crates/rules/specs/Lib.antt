@@ -1,0 +1,6 @@
+pub mod Placing
+pub mod Faithful
+pub mod Operations
+pub mod Story
+pub mod TableWords
+pub mod Table
