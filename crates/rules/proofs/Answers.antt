@@ -33,7 +33,7 @@ use Rattle.rules.proofs.Steps.{turn-same}
 -- ## ask
 
 module _ (l : Layout) (p : Page) (s : Size) where
-  ask-refused : (r : Refusal) → asked l p s ≡ AskRefused r → askRefusal l p s ≡ some r
+  pub ask-refused : (r : Refusal) → asked l p s ≡ AskRefused r → askRefusal l p s ≡ some r
   unfolding asked
   ask-refused r e = go (fitsPage l p s) (askRefusal l p s) e
     where

@@ -4,7 +4,7 @@ use Prim.Native.Nat.{ℕ, suc, _<_}
 use native.Mathlib.Omega.{arith}
 use mathlib.Core.Path.{_≡_, refl, sym, _∙_, ap}
 use mathlib.Core.Bool.{Bool, true, false, not, _&&_}
-use mathlib.Core.List.{[], _∷_}
+use mathlib.Core.List.{[], _∷_, List·Memᴰ, List·Memᴰ·head, List·Memᴰ·tail}
 use mathlib.Core.Logic.{_↔_}
 use mathlib.Core.Option.{none, some}
 use lib.ListN.{length, take, drop, getD}
@@ -15,7 +15,7 @@ use Rattle.geometry.specs.declared.rect.Size.{Size}
 use Rattle.art.specs.Stores.{Stores, runsPast}
 use Rattle.art.specs.Trimming.{allClear}
 use Rattle.art.specs.declared.memory_rgba8_texture.Image.{Image}
-use Rattle.records.specs.Refusals.{firstOf, Row}
+use Rattle.records.specs.Refusals.{numberOf, firstOf, Row, rowNumbers}
 use Rattle.records.specs.Records.{sizeOf}
 use Rattle.records.specs.Layouts.{standing, hasKey, wellFormed}
 use Rattle.records.specs.Operations.{noSuchPage}
@@ -89,6 +89,13 @@ exactly-at row n h o =
     let s = ap firstOf (split-at row n (false, OutOfBounds) h) in
     let x = exactly (take n row) (testAt n row) (refusalAt n row) (drop (suc n) row) (o .0) (o .1) in
     (λ e. x .0 (sym s ∙ e), λ t. s ∙ x .1 t)
+
+-- and no other number is
+pub answer-in : (row : Row) (r : Refusal) → firstOf row ≡ some r → List·Memᴰ (numberOf r) (rowNumbers row)
+unfolding firstOf
+answer-in [] r e = let z : _≡_ {A = ℕ} 0 1 = cc in absurd (omega arith)
+answer-in ((true, q) ∷ cs) r e = let z : r ≡ q = cc in List·Memᴰ·head (ap numberOf z)
+answer-in ((false, q) ∷ cs) r e = List·Memᴰ·tail (answer-in cs r e)
 
 -- nothing is answered exactly when no check holds
 pub none-holds : (row : Row) → firstOf row ≡ none → Nones row

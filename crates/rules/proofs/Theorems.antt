@@ -19,7 +19,7 @@ use Rattle.geometry.specs.declared.spot.Turn.{Turn}
 use Rattle.art.specs.Stores.{Stores, runsPast}
 use Rattle.art.specs.Trimming.{allClear}
 use Rattle.art.specs.declared.memory_rgba8_texture.Image.{Image}
-use Rattle.records.specs.Refusals.{firstOf, rowNumbers}
+use Rattle.records.specs.Refusals.{numberOf, firstOf, rowNumbers}
 use Rattle.records.specs.Settings.{inBounds, blankConfig, emptyLayout}
 use Rattle.records.specs.Records.{sizeOf}
 use Rattle.records.specs.Layouts.{standing, hasKey, wellFormed, pageCount}
@@ -48,10 +48,10 @@ use Rattle.geometry.proofs.Theorems.{page-inside, page-apart}
 use Rattle.records.proofs.Rows.{Nones}
 use Rattle.records.specs.declared.layout.Opening.{Opening}
 use Rattle.records.proofs.Answers.{opened-done, opened-refused}
-use Rattle.rules.proofs.Rows.{askRow, offerRow, withdrawRow, ask-row, offer-row, withdraw-row, Passed, holds-none}
+use Rattle.rules.proofs.Rows.{askRow, offerRow, withdrawRow, ask-row, offer-row, withdraw-row, Passed, answer-in, holds-none}
 use Rattle.rules.proofs.Pages.{PagesFilled}
 use Rattle.rules.proofs.Accepted.{large-exactly, smaller-fits, art-pixels, art-smaller, accepted-placed, NoPageFits, full-exactly}
-use Rattle.rules.proofs.Answers.{ask-at, ask-passed, offer-at, offer-back, withdraw-at, withdraw-back, asked-tells, offered-tells, withdrawn-tells}
+use Rattle.rules.proofs.Answers.{ask-refused, ask-at, ask-passed, offer-refused, offer-at, offer-back, withdraw-refused, withdraw-at, withdraw-back, asked-tells, offered-tells, withdrawn-tells}
 use Rattle.rules.proofs.Standing.{empty-filled}
 use Rattle.rules.proofs.Sound.{sound-pages, none-sound}
 use Rattle.rules.proofs.Story.{standing-sound, layout-stands, calls-stand, Demand3, stands-demand, calls-shut, images-shut}
@@ -85,6 +85,10 @@ module _ (l : Layout) (p : Page) (s : Size) where
 
   pub ask-11 : asked l p s ≡ AskRefused NoSuchPage ↔ (Passed 3 (askRow l p s) × (noSuchPage l p ≡ true))
   ask-11 = ask-at l p s 3 (omega arith) (refl, refl)
+
+  -- no other number is answered
+  pub ask-only : (r : Refusal) → asked l p s ≡ AskRefused r → List·Memᴰ (numberOf r) (2 ∷ 3 ∷ 4 ∷ 11 ∷ [])
+  ask-only r e = answer-in (askRow l p s) r (sym (ask-row l p s) ∙ ask-refused l p s r e)
 
   -- "Asking answers yes or no for one page as it stands."
   pub ask-answers : Nones (askRow l p s) → asked l p s ≡ cond (fitsPage l p s) Yes No
@@ -120,6 +124,10 @@ module _ (l : Layout) (s : Stores) (k : Key) (i : Image) where
       ↔ (Passed 8 (offerRow l s k i) × (pagesFull (l .config) (standing l) (artFor (l .config) s k i .whole) ≡ true))
   offer-10 = offer-at l s k i 8 (omega arith) (refl, refl)
 
+  pub offer-only : (r : Refusal) → offered l s k i .answer ≡ OfferRefused r
+      → List·Memᴰ (numberOf r) (2 ∷ 3 ∷ 4 ∷ 5 ∷ 6 ∷ 7 ∷ 8 ∷ 9 ∷ 10 ∷ [])
+  offer-only r e = answer-in (offerRow l s k i) r (sym (offer-row l s k i) ∙ offer-refused l s k i r e)
+
 module _ (l : Layout) where
   pub withdraw-2 : withdrawn l .answer ≡ WithdrawRefused NotWellFormed ↔ (Passed 0 (withdrawRow l) × (not (wellFormed l) ≡ true))
   withdraw-2 = withdraw-at l 0 (omega arith) (refl, refl)
@@ -129,6 +137,9 @@ module _ (l : Layout) where
 
   pub withdraw-18 : withdrawn l .answer ≡ WithdrawRefused NothingStands ↔ (Passed 2 (withdrawRow l) × (eqb (l .count) 0 ≡ true))
   withdraw-18 = withdraw-at l 2 (omega arith) (refl, refl)
+
+  pub withdraw-only : (r : Refusal) → withdrawn l .answer ≡ WithdrawRefused r → List·Memᴰ (numberOf r) (2 ∷ 3 ∷ 18 ∷ [])
+  withdraw-only r e = answer-in (withdrawRow l) r (sym (withdraw-row l) ∙ withdraw-refused l r e)
 
 -- ## "8 trimmed cell fits an empty canvas in no allowed orientation"
 

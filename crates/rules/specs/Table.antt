@@ -120,6 +120,9 @@ trimLines =
 unfoldable pub paddedTrimming : Config
 paddedTrimming = config 2 3 3 0 0 8 256 false true false
 
+unfoldable pub paddedOne : Config
+paddedOne = config 4 5 2 0 0 1 1 false false false
+
 -- a visible pixel, and 3x3 all clear behind it
 unfoldable pub someClear : Stores
 someClear = symbols (shown 1 ++ clear 9)
@@ -129,9 +132,12 @@ unfoldable pub orderLines : List Line
 orderLines =
     -- 9 before 10, 8 before 9, 6 before 8, 5 before 6, 4 before 5
     (
-      answers (limited 4 5 1 1) (offer 0 4 4 ∷ offer 1 1 1 ∷ offer 1 8 1 ∷ offer 0 8 1 ∷ offer 0 8 9 ∷ offer 0 1 2049 ∷ []),
-      at 0 0 0 4 4 ∷ refused 9 ∷ refused 8 ∷ refused 6 ∷ refused 5 ∷ refused 4 ∷ [],
+      answers (limited 4 5 1 1) (offer 0 4 4 ∷ offer 1 1 1 ∷ offer 1 8 1 ∷ offer 1 1 8 ∷ offer 0 8 1 ∷ offer 0 8 9 ∷ offer 0 1 2049 ∷ []),
+      at 0 0 0 4 4 ∷ refused 9 ∷ refused 8 ∷ refused 8 ∷ refused 6 ∷ refused 5 ∷ refused 4 ∷ [],
     )
+    -- 8 before 9 also where only the turned cell would fit, or only the image without its margin
+    ∷ (answers (limited 4 3 1 1) (offer 0 4 2 ∷ offer 1 2 4 ∷ offer 1 4 2 ∷ []), at 0 0 0 4 2 ∷ refused 8 ∷ refused 9 ∷ [])
+    ∷ (answers paddedOne (offer 0 2 2 ∷ offer 1 3 3 ∷ offer 1 2 2 ∷ []), at 0 0 0 2 2 ∷ refused 8 ∷ refused 9 ∷ [])
     -- 6 before 7, and of every standing key
     ∷ (
       answers (trimming 2 3)
