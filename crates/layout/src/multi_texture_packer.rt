@@ -10,7 +10,7 @@ ghost use Rattle.records.specs.Settings.{inBounds};
 ghost use Rattle.records.specs.Refusals.{firstOf};
 ghost use Rattle.records.specs.declared.frame.Record.{Record};
 ghost use Rattle.rules.specs.Placing.{spotOn, cellsOn};
-ghost use Rattle.rules.specs.Operations.{asked, askAnswer, offered, withdrawn, withoutLatest};
+ghost use Rattle.rules.specs.Operations.{asked, askAnswer, askedNumbers, offered, offeredNumbers, withdrawn, withdrawnNumbers, withoutLatest};
 ghost use Rattle.layout.specs.Replay.{Skies, askRest, latestGone};
 use crate::offers;
 use crate::placing;
@@ -63,6 +63,7 @@ fn ask_on<'a>(
 // ask: 2 3 4 11
 pub fn ask(l: Layout, page: Page, size: Size) -> Asked
     ensures { λ r. ⌜ r ≡ asked l page size ⌝ }
+    ensures { λ r. ⌜ askedNumbers r ≡ askedNumbers (asked l page size) ⌝ }
 {
     let mut xs = [0u32; 2064];
     let mut ys = [0u32; 2064];
@@ -83,6 +84,7 @@ pub fn offer<'a>(
     image: Image,
 ) -> Offering
     ensures { λ r. ⌜ r ≡ offered l (lent (now (symbols .entry)) (now (wording .entry))) key image ⌝ }
+    ensures { λ r. ⌜ offeredNumbers (r .answer) ≡ offeredNumbers (offered l (lent (now (symbols .entry)) (now (wording .entry))) key image .answer) ⌝ }
 {
     let mut xs = [0u32; 2064];
     let mut ys = [0u32; 2064];
@@ -143,6 +145,7 @@ fn withdraw_latest(l: Layout) -> Withdrawing
 // withdraw latest: 2 3 18
 pub fn withdraw(l: Layout) -> Withdrawing
     ensures { λ r. ⌜ r ≡ withdrawn l ⌝ }
+    ensures { λ r. ⌜ withdrawnNumbers (r .answer) ≡ withdrawnNumbers (withdrawn l .answer) ⌝ }
 {
     let mut xs = [0u32; 2064];
     let mut ys = [0u32; 2064];

@@ -1,8 +1,8 @@
 -- What open and page size answer, from the tests and the values made. Assumes nothing.
-use Prim.Native.Nat.{_≤_, _<_}
+use Prim.Native.Nat.{ℕ, _≤_, _<_}
 use mathlib.Core.Path.{_≡_, ap, _∙_}
 use mathlib.Core.Bool.{true, false, not}
-use mathlib.Core.List.{[]}
+use mathlib.Core.List.{List, []}
 use mathlib.Core.Option.{none, some}
 use borrow.Author.Tests.{le-leb, lt-leb}
 use Rattle.records.specs.Settings.{inBounds, blankConfig, emptyLayout}
@@ -16,6 +16,10 @@ use Rattle.records.specs.declared.layout.Sized.the-variants.{Is, Refused
 use Rattle.records.specs.declared.refusal.Refusal.{Refusal}
 use Rattle.records.specs.declared.refusal.Refusal.the-variants.{OutOfBounds, NotWellFormed, NoSuchPage}
 use Rattle.records.proofs.Rows.{hit, skipped, none-left}
+
+-- a promise is kept: the answer, and its numbers and values
+pub says : {A : Type 0} (numbers : A → List ℕ) {r q : A} → r ≡ q → (r ≡ q) × (numbers r ≡ numbers q)
+says numbers e = (e, ap numbers e)
 
 -- ## open
 

@@ -7,7 +7,7 @@ ghost use Rattle.records.specs.Settings.{inBounds, emptyLayout};
 ghost use Rattle.records.specs.Records.{isBlank, recordWellFormed};
 ghost use Rattle.records.specs.Layouts.{standing, unused, wellFormed, onPage, pageCount, keyPlace, endsOf, pageSide};
 ghost use Rattle.records.specs.Ends.{endAt, grows};
-ghost use Rattle.records.specs.Operations.{opened, pageSized};
+ghost use Rattle.records.specs.Operations.{opened, openedNumbers, pageSized, sizedNumbers};
 use crate::frame;
 use crate::frame::Key;
 use crate::frame::Page;
@@ -52,6 +52,7 @@ pub fn empty_layout(c: Config) -> Layout
 // open: 1
 pub fn open(c: Config) -> Opening
     ensures { λ r. ⌜ r ≡ opened c ⌝ }
+    ensures { λ r. ⌜ openedNumbers (r .answer) ≡ openedNumbers (opened c .answer) ⌝ }
 {
     if texture_packer_config::in_bounds(c) {
         return Opening {
@@ -205,6 +206,7 @@ pub fn page_side(l: Layout, page: Page) -> Size
 // page size: 2 11
 pub fn page_size(l: Layout, page: Page) -> Sized
     ensures { λ r. ⌜ r ≡ pageSized l page ⌝ }
+    ensures { λ r. ⌜ sizedNumbers r ≡ sizedNumbers (pageSized l page) ⌝ }
 {
     if !well_formed(l) {
         return Sized::Refused(Refusal::NotWellFormed);

@@ -1,3 +1,5 @@
+use Rattle.records.proofs.Answers.{says}
+use Rattle.rules.specs.Operations.{askedNumbers}
 use mathlib.Core.Path.{_≡_}
 use native.Mathlib.Omega.{arith}
 use Rattle.records.proofs.Pages.{count-few}
@@ -52,18 +54,18 @@ ask-on-requires c κs =
     ((formed _ (f .formed) .in-bounds, omega (arith, sk .count, count-few _ (f .formed))), (_, sk))
 
 returns : tie.Need-returns
-returns c = let e : c .before .before .before .before .before .trusted .result ≡ Unformed = cc in ask-unformed _ _ _ (unformed _ _ (c .before .before .before .before .before .trusted .ensures .is) e)
+returns c = let e : c .before .before .before .before .before .trusted .result ≡ Unformed = cc in says askedNumbers (ask-unformed _ _ _ (unformed _ _ (c .before .before .before .before .before .trusted .ensures .is) e))
 
 returns-2 : tie.Need-returns-2
 returns-2 c =
     let e : c .before .before .before .before .before .trusted .result ≡ Unfaithful = cc in
     let f = not-faithful _ _ (c .before .before .before .before .before .trusted .ensures .is) e in
-    ask-unfaithful _ _ _ (f .formed) (f .unfaithful)
+    says askedNumbers (ask-unfaithful _ _ _ (f .formed) (f .unfaithful))
 
 returns-3 : tie.Need-returns-3
 returns-3 c =
     let f = stands (c .before .before .before .before .before) in
-    ask-rest _ _ _ _ (f .formed) (f .is-faithful) (c .ask-on .ensures (standing (c .before .before .before .before .before .before .before .before .before .before .before .before .before .before .args .l)) (c .before .before .before .before .before .before .before .before .before .before .trusted .ensures .skies _ (told (c .before .before .before .before .before))))
+    says askedNumbers (ask-rest _ _ _ _ (f .formed) (f .is-faithful) (c .ask-on .ensures (standing (c .before .before .before .before .before .before .before .before .before .before .before .before .before .before .args .l)) (c .before .before .before .before .before .before .before .before .before .before .trusted .ensures .skies _ (told (c .before .before .before .before .before)))))
 
 pub ask-spec : {M : Type 1} → statement M
 ask-spec =

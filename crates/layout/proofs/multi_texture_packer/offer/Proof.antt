@@ -1,9 +1,17 @@
+use Rattle.records.proofs.Answers.{says}
+use Rattle.rules.specs.Operations.{offeredNumbers}
+use Rattle.rules.specs.declared.multi_texture_packer.Offering.{Offering}
+use mathlib.Core.List.{List}
+use Prim.Native.Nat.{ℕ}
 use mathlib.Core.Path.{_≡_}
 use Rattle.layout.specs.declared.trust.Trust.the-variants.{Unformed, Unfaithful, StandsOn}
 use Rattle.layout.proofs.Answering.{Formed2, unformed, not-faithful, stands-on, offer-unformed, offer-unfaithful, offer-rest}
 use borrow.Author.Needs.{needs}
 use Rattle.layout.proofs.multi_texture_packer.offer.Statement.{statement}
 use Rattle.layout.proofs.multi_texture_packer.offer.Tie as tie
+
+abbrev numbers : Offering → List ℕ
+numbers o = offeredNumbers (o .answer)
 
 told : (c : tie.After-pages) → c .before .before .before .before .before .trusted .result ≡ StandsOn (c .pages .given .0 .0)
 told c = cc
@@ -45,16 +53,16 @@ offer-on-requires : tie.Need-offer-on-requires
 offer-on-requires c κs = (stands (c .before .before .before .before) .formed, c .before .before .before .before .before .before .before .before .before .trusted .ensures .skies _ (told (c .before .before .before .before)))
 
 returns : tie.Need-returns
-returns c = let e : c .before .before .before .before .before .trusted .result ≡ Unformed = cc in offer-unformed _ _ _ _ (unformed _ _ (c .before .before .before .before .before .trusted .ensures .is) e)
+returns c = let e : c .before .before .before .before .before .trusted .result ≡ Unformed = cc in says numbers (offer-unformed _ _ _ _ (unformed _ _ (c .before .before .before .before .before .trusted .ensures .is) e))
 
 returns-2 : tie.Need-returns-2
 returns-2 c =
     let e : c .before .before .before .before .before .trusted .result ≡ Unfaithful = cc in
     let f = not-faithful _ _ (c .before .before .before .before .before .trusted .ensures .is) e in
-    offer-unfaithful _ _ _ _ (f .formed) (f .unfaithful)
+    says numbers (offer-unfaithful _ _ _ _ (f .formed) (f .unfaithful))
 
 returns-3 : tie.Need-returns-3
-returns-3 c = let f = stands (c .before .before .before .before .before .before .before .before) in offer-rest _ _ _ _ _ (f .formed) (f .is-faithful) (c .before .before .before .offer-on .ensures)
+returns-3 c = let f = stands (c .before .before .before .before .before .before .before .before) in says numbers (offer-rest _ _ _ _ _ (f .formed) (f .is-faithful) (c .before .before .before .offer-on .ensures))
 
 pub offer-spec : {M : Type 1} → statement M
 offer-spec =

@@ -6,7 +6,8 @@ use borrow.Author.Tests.{not-true, not-false}
 use borrow.Author.Needs.{needs}
 use Rattle.records.specs.declared.layout.Sized.the-variants.{Is}
 use Rattle.records.specs.Layouts.{wellFormed}
-use Rattle.records.proofs.Answers.{size-unformed, size-no-page, size-passes, sized-refused, sized-is}
+use Rattle.records.specs.Operations.{sizedNumbers}
+use Rattle.records.proofs.Answers.{says, size-unformed, size-no-page, size-passes, sized-refused, sized-is}
 use Rattle.records.proofs.layout.page_size.Statement.{statement}
 use Rattle.records.proofs.layout.page_size.Tie as tie
 
@@ -17,19 +18,19 @@ well-formed-requires : tie.Need-well-formed-requires
 well-formed-requires c κs = search needs
 
 returns : tie.Need-returns
-returns c = sym (sized-refused _ _ (size-unformed _ _ (sym (c .before .well-formed .ensures) ∙ not-true _ (c .if1 .taken))))
+returns c = says sizedNumbers (sym (sized-refused _ _ (size-unformed _ _ (sym (c .before .well-formed .ensures) ∙ not-true _ (c .if1 .taken)))))
 
 page-count-requires : tie.Need-page-count-requires
 page-count-requires c κs = formed c
 
 returns-2 : tie.Need-returns-2
-returns-2 c = sym (sized-refused _ _ (size-no-page _ _ (formed (c .before .before .before)) (omega arith)))
+returns-2 c = says sizedNumbers (sym (sized-refused _ _ (size-no-page _ _ (formed (c .before .before .before)) (omega arith))))
 
 page-side-requires : tie.Need-page-side-requires
 page-side-requires c κs = formed (c .before .before .before)
 
 returns-3 : tie.Need-returns-3
-returns-3 c = ap Is (c .page-side .ensures) ∙ sym (sized-is _ _ (size-passes _ _ (formed (c .before .before .before .before)) (omega arith)))
+returns-3 c = says sizedNumbers (ap Is (c .page-side .ensures) ∙ sym (sized-is _ _ (size-passes _ _ (formed (c .before .before .before .before)) (omega arith))))
 
 pub page-size-spec : {M : Type 1} → statement M
 page-size-spec =
