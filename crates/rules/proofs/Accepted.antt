@@ -30,7 +30,7 @@ use Rattle.records.specs.declared.frame.Record.{Record}
 use Rattle.records.specs.declared.layout.Layout.{Layout}
 use Rattle.rules.specs.Placing.{canvas, cellSize, spotOn, cellsOn, firstPage, pageFor, recordAt, recordFor, placed}
 use Rattle.rules.specs.Faithful.{faithful}
-use Rattle.rules.specs.Operations.{badSize, artFor, fitsEmpty, tooLarge, pagesFull, offerRefusal}
+use Rattle.rules.specs.Operations.{badSize, artFor, fitsEmpty, tooLarge, pagesFull, offerRefusal, offerRow}
 use Rattle.rules.specs.declared.placing.Art.{Art}
 use Rattle.geometry.proofs.Words.{not-both, and-left, and-right, both, earliest-none}
 use Rattle.geometry.proofs.Members.{any-in, any-true, from-in, from-mem}
@@ -38,7 +38,7 @@ use Rattle.geometry.proofs.Fitting.{NoLarger, upright-allowed, allowed-turned}
 use Rattle.geometry.proofs.Theorems.{rank-picks, smaller-picked, empty-takes, placed-sides}
 use Rattle.art.proofs.Theorems.{box-in, box-w, box-h}
 use Rattle.records.proofs.Rows.{Nones}
-use Rattle.rules.proofs.Rows.{offerRow, offer-row, none-holds}
+use Rattle.rules.proofs.Rows.{offer-row, none-holds}
 use Rattle.rules.proofs.Pages.{past-empty, earliest-found, page-fits}
 
 -- ## 8

@@ -18,7 +18,7 @@ use Rattle.records.specs.declared.frame.Record.{Record}
 use Rattle.records.specs.declared.layout.Layout.{Layout}
 use Rattle.records.specs.declared.refusal.Refusal.{Refusal}
 use Rattle.rules.specs.Placing.{placed}
-use Rattle.rules.specs.Operations.{askRefusal, fitsPage, askAnswer, asked, askedNumbers, artFor, offerRefusal, offerAnswer, offered, offeredNumbers, withdrawRefusal, withdrawAnswer, withdrawn, withdrawnNumbers}
+use Rattle.rules.specs.Operations.{askRefusal, fitsPage, askAnswer, asked, askedNumbers, artFor, offerRefusal, offerAnswer, offered, offeredNumbers, withdrawRefusal, withdrawAnswer, withdrawn, withdrawnNumbers, askRow, offerRow, withdrawRow}
 use Rattle.rules.specs.declared.multi_texture_packer.Asked.{Asked}
 use Rattle.rules.specs.declared.multi_texture_packer.Asked.the-variants.{Yes, No, Refused as AskRefused}
 use Rattle.rules.specs.declared.multi_texture_packer.Offered.{Offered}
@@ -26,7 +26,7 @@ use Rattle.rules.specs.declared.multi_texture_packer.Offered.the-variant
 use Rattle.rules.specs.declared.multi_texture_packer.Withdrawn.{Withdrawn}
 use Rattle.rules.specs.declared.multi_texture_packer.Withdrawn.the-variants.{Gone, Refused as WithdrawRefused}
 use Rattle.records.proofs.Theorems.{number-tells, number-some}
-use Rattle.rules.proofs.Rows.{askRow, offerRow, withdrawRow, ask-row, offer-row, withdraw-row, testAt, refusalAt, Passed, Once, exactly-at}
+use Rattle.rules.proofs.Rows.{ask-row, offer-row, withdraw-row, testAt, refusalAt, Passed, Once, exactly-at}
 use Rattle.rules.proofs.Accepted.{accepted-placed}
 use Rattle.rules.proofs.Steps.{turn-same}
 

@@ -3,56 +3,25 @@
 use Prim.Native.Nat.{ℕ, suc, _<_}
 use native.Mathlib.Omega.{arith}
 use mathlib.Core.Path.{_≡_, refl, sym, _∙_, ap}
-use mathlib.Core.Bool.{Bool, true, false, not, _&&_}
+use mathlib.Core.Bool.{Bool, true, false}
 use mathlib.Core.List.{[], _∷_, List·Memᴰ, List·Memᴰ·head, List·Memᴰ·tail}
 use mathlib.Core.Logic.{_↔_}
 use mathlib.Core.Option.{none, some}
 use lib.ListN.{length, take, drop, getD}
 use lib.Seq.{split-at}
-use lib.Dec.{leb, eqb}
-use Rattle.geometry.specs.Words.{any}
 use Rattle.geometry.specs.declared.rect.Size.{Size}
-use Rattle.art.specs.Stores.{Stores, runsPast}
-use Rattle.art.specs.Trimming.{allClear}
+use Rattle.art.specs.Stores.{Stores}
 use Rattle.art.specs.declared.memory_rgba8_texture.Image.{Image}
 use Rattle.records.specs.Refusals.{numberOf, firstOf, Row, rowNumbers}
-use Rattle.records.specs.Records.{sizeOf}
-use Rattle.records.specs.Layouts.{standing, hasKey, wellFormed}
-use Rattle.records.specs.Operations.{noSuchPage}
 use Rattle.records.specs.declared.frame.Key.{Key}
 use Rattle.records.specs.declared.frame.Page.{Page}
 use Rattle.records.specs.declared.layout.Layout.{Layout}
 use Rattle.records.specs.declared.refusal.Refusal.{Refusal}
-use Rattle.records.specs.declared.refusal.Refusal.the-variants.{OutOfBounds, NotWellFormed, NotFaithful, BadSize, PastStore, KeyStands, AllClear, TooLarge, ImageLimit, PageLimit, NoSuchPage, NothingStands}
-use Rattle.rules.specs.Faithful.{faithful}
-use Rattle.rules.specs.Operations.{badSize, askRefusal, artFor, tooLarge, pagesFull, offerRefusal, withdrawRefusal}
+use Rattle.records.specs.declared.refusal.Refusal.the-variants.{OutOfBounds}
+use Rattle.rules.specs.Operations.{askRefusal, offerRefusal, withdrawRefusal, askRow, offerRow, withdrawRow}
 use Rattle.records.proofs.Rows.{skipped, Nones, lacks, exactly}
 
 -- ## the rows
-
-abbrev pub askRow : Layout → Page → Size → Row
-askRow l p s =
-    (not (wellFormed l), NotWellFormed)
-    ∷ (not (faithful l), NotFaithful)
-    ∷ (badSize (s .w) (s .h), BadSize)
-    ∷ (noSuchPage l p, NoSuchPage)
-    ∷ []
-
-abbrev pub offerRow : Layout → Stores → Key → Image → Row
-offerRow l s k i =
-    (not (wellFormed l), NotWellFormed)
-    ∷ (not (faithful l), NotFaithful)
-    ∷ (badSize (i .w) (i .h), BadSize)
-    ∷ (runsPast s i, PastStore)
-    ∷ (any (hasKey k) (standing l), KeyStands)
-    ∷ (l .config .trim && allClear s i, AllClear)
-    ∷ (tooLarge (l .config) (sizeOf (artFor (l .config) s k i .kept)), TooLarge)
-    ∷ (leb (l .config .images) (l .count), ImageLimit)
-    ∷ (pagesFull (l .config) (standing l) (artFor (l .config) s k i .whole), PageLimit)
-    ∷ []
-
-abbrev pub withdrawRow : Layout → Row
-withdrawRow l = (not (wellFormed l), NotWellFormed) ∷ (not (faithful l), NotFaithful) ∷ (eqb (l .count) 0, NothingStands) ∷ []
 
 pub ask-row : (l : Layout) (p : Page) (s : Size) → askRefusal l p s ≡ firstOf (askRow l p s)
 unfolding askRefusal

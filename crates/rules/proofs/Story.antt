@@ -22,7 +22,7 @@ use Rattle.records.specs.declared.refusal.Refusal.{Refusal}
 use Rattle.records.specs.declared.refusal.Refusal.the-variants.{NotWellFormed}
 use Rattle.rules.specs.Placing.{canvas, cellsOn, placed}
 use Rattle.rules.specs.Faithful.{artOf, faithful}
-use Rattle.rules.specs.Operations.{artFor, pagesFull, offerRefusal, offerAnswer, offered, withdrawRefusal, withdrawAnswer, withdrawn, withoutLatest}
+use Rattle.rules.specs.Operations.{artFor, pagesFull, offerRefusal, offerAnswer, offered, withdrawRefusal, withdrawAnswer, withdrawn, withoutLatest, withdrawRow}
 use Rattle.rules.specs.Story.{filled, filledWith, layoutFor, Call, Offer, Withdraw, Ask, step, added, lost, stand, layoutAfter, imagesAfter}
 use Rattle.rules.specs.declared.placing.Art.{Art}
 use Rattle.rules.specs.declared.multi_texture_packer.Offered.the-variants.{Refused as OfferRefused}
@@ -32,7 +32,7 @@ use Rattle.rules.specs.declared.multi_texture_packer.Withdrawing.{Withdr
 use Rattle.geometry.proofs.Theorems.{page-inside, page-apart}
 use Rattle.records.proofs.Rows.{Nones, all-of, hit}
 use Rattle.records.proofs.Checks.{bounded, formed}
-use Rattle.rules.proofs.Rows.{withdrawRow, offer-row, withdraw-row, none-holds}
+use Rattle.rules.proofs.Rows.{offer-row, withdraw-row, none-holds}
 use Rattle.rules.proofs.Pages.{map-snoc}
 use Rattle.rules.proofs.Accepted.{size-in, accepted, art-box, art-pixels}
 use Rattle.rules.proofs.Answers.{refused-offer, refused-withdraw}

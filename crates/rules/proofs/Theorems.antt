@@ -33,7 +33,7 @@ use Rattle.records.specs.declared.refusal.Refusal.{Refusal}
 use Rattle.records.specs.declared.refusal.Refusal.the-variants.{NotWellFormed, NotFaithful, BadSize, PastStore, KeyStands, AllClear, TooLarge, ImageLimit, PageLimit, NoSuchPage, NothingStands}
 use Rattle.rules.specs.Placing.{canvas, spotOn, cellsOn, placed}
 use Rattle.rules.specs.Faithful.{artOf, faithful}
-use Rattle.rules.specs.Operations.{badSize, askRefusal, fitsPage, asked, askedNumbers, artFor, tooLarge, pagesFull, offerRefusal, withRecord, offerAnswer, offered, offeredNumbers, withdrawRefusal, withdrawn, withdrawnNumbers}
+use Rattle.rules.specs.Operations.{badSize, askRefusal, fitsPage, asked, askedNumbers, artFor, tooLarge, pagesFull, offerRefusal, withRecord, offerAnswer, offered, offeredNumbers, withdrawRefusal, withdrawn, withdrawnNumbers, askRow, offerRow, withdrawRow}
 use Rattle.rules.specs.Story.{Call, Ask, step, layoutAfter, imagesAfter}
 use Rattle.rules.specs.declared.multi_texture_packer.Asked.{Asked}
 use Rattle.rules.specs.declared.multi_texture_packer.Asked.the-variants.{Yes, No, Refused as AskRefused}
@@ -48,7 +48,7 @@ use Rattle.geometry.proofs.Theorems.{page-inside, page-apart}
 use Rattle.records.proofs.Rows.{Nones}
 use Rattle.records.specs.declared.layout.Opening.{Opening}
 use Rattle.records.proofs.Answers.{opened-done, opened-refused}
-use Rattle.rules.proofs.Rows.{askRow, offerRow, withdrawRow, ask-row, offer-row, withdraw-row, Passed, answer-in, holds-none}
+use Rattle.rules.proofs.Rows.{ask-row, offer-row, withdraw-row, Passed, answer-in, holds-none}
 use Rattle.rules.proofs.Pages.{PagesFilled}
 use Rattle.rules.proofs.Accepted.{large-exactly, smaller-fits, art-pixels, art-smaller, accepted-placed, NoPageFits, full-exactly}
 use Rattle.rules.proofs.Answers.{ask-refused, ask-at, ask-passed, offer-refused, offer-at, offer-back, withdraw-refused, withdraw-at, withdraw-back, asked-tells, offered-tells, withdrawn-tells}

@@ -20,12 +20,12 @@ use Rattle.records.specs.declared.layout.Layout.{Layout}
 use Rattle.records.specs.declared.refusal.Refusal.{Refusal}
 use Rattle.rules.specs.Placing.{recordAt, placed}
 use Rattle.rules.specs.Faithful.{faithful}
-use Rattle.rules.specs.Operations.{artFor, offerRefusal, offerAnswer, offered, withdrawRefusal, withdrawAnswer, withdrawn}
+use Rattle.rules.specs.Operations.{artFor, offerRefusal, offerAnswer, offered, withdrawRefusal, withdrawAnswer, withdrawn, withdrawRow}
 use Rattle.rules.specs.Story.{filled}
 use Rattle.rules.specs.declared.multi_texture_packer.Offered.the-variants.{Placed}
 use Rattle.rules.specs.declared.multi_texture_packer.Withdrawing.{Withdrawing}
 use Rattle.rules.specs.declared.multi_texture_packer.Withdrawn.the-variants.{Gone}
-use Rattle.rules.proofs.Rows.{withdrawRow, withdraw-row, holds-none}
+use Rattle.rules.proofs.Rows.{withdraw-row, holds-none}
 use Rattle.rules.proofs.Pages.{placed-at}
 use Rattle.rules.proofs.Standing.{length-snoc, with-filled, without-filled, latest-filled}
 use Rattle.rules.proofs.Sound.{Sound, sound-formed, sound-faithful}

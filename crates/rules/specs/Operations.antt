@@ -12,7 +12,7 @@ use Rattle.geometry.specs.declared.rect.Size.{Size}
 use Rattle.art.specs.Stores.{Stores, runsPast}
 use Rattle.art.specs.Trimming.{allClear, trimBox}
 use Rattle.art.specs.declared.memory_rgba8_texture.Image.{Image}
-use Rattle.records.specs.Refusals.{numberOf, firstOf}
+use Rattle.records.specs.Refusals.{numberOf, Row, firstOf}
 use Rattle.records.specs.Settings.{blankRecord}
 use Rattle.records.specs.Records.{sizeOf}
 use Rattle.records.specs.Layouts.{standing, hasKey, wellFormed, pageCount}
@@ -42,14 +42,16 @@ badSize w h = not (within 1 2048 w && within 1 2048 h)
 
 -- ## ask (page, size): 2 3 4 11
 
-unfoldable pub askRefusal : Layout → Page → Size → Option Refusal
-askRefusal l p s =
-    firstOf
-    ((not (wellFormed l), NotWellFormed)
+abbrev pub askRow : Layout → Page → Size → Row
+askRow l p s =
+    (not (wellFormed l), NotWellFormed)
     ∷ (not (faithful l), NotFaithful)
     ∷ (badSize (s .w) (s .h), BadSize)
     ∷ (noSuchPage l p, NoSuchPage)
-    ∷ [])
+    ∷ []
+
+unfoldable pub askRefusal : Layout → Page → Size → Option Refusal
+askRefusal l p s = firstOf (askRow l p s)
 
 -- yes or no for one page as it stands
 unfoldable pub fitsPage : Layout → Page → Size → Bool
@@ -91,10 +93,9 @@ tooLarge c s = not (any (λ t. fitsEmpty (canvas c) (lying t (cellSize c s))) (o
 unfoldable pub pagesFull : Config → List Record → Size → Bool
 pagesFull c rs whole = eqb (pageFor c rs whole) (pageCount rs) && leb (c .pages) (pageCount rs)
 
-unfoldable pub offerRefusal : Layout → Stores → Key → Image → Option Refusal
-offerRefusal l s k i =
-    firstOf
-    ((not (wellFormed l), NotWellFormed)
+abbrev pub offerRow : Layout → Stores → Key → Image → Row
+offerRow l s k i =
+    (not (wellFormed l), NotWellFormed)
     ∷ (not (faithful l), NotFaithful)
     ∷ (badSize (i .w) (i .h), BadSize)
     ∷ (runsPast s i, PastStore)
@@ -103,7 +104,10 @@ offerRefusal l s k i =
     ∷ (tooLarge (l .config) (sizeOf (artFor (l .config) s k i .kept)), TooLarge)
     ∷ (leb (l .config .images) (l .count), ImageLimit)
     ∷ (pagesFull (l .config) (standing l) (artFor (l .config) s k i .whole), PageLimit)
-    ∷ [])
+    ∷ []
+
+unfoldable pub offerRefusal : Layout → Stores → Key → Image → Option Refusal
+offerRefusal l s k i = firstOf (offerRow l s k i)
 
 -- one record more
 unfoldable pub withRecord : Layout → Record → Layout
@@ -124,10 +128,11 @@ offeredNumbers (OfferRefused r) = numberOf r ∷ []
 
 -- ## withdraw latest: 2 3 18
 
+abbrev pub withdrawRow : Layout → Row
+withdrawRow l = (not (wellFormed l), NotWellFormed) ∷ (not (faithful l), NotFaithful) ∷ (eqb (l .count) 0, NothingStands) ∷ []
+
 unfoldable pub withdrawRefusal : Layout → Option Refusal
-withdrawRefusal l =
-    firstOf
-    ((not (wellFormed l), NotWellFormed) ∷ (not (faithful l), NotFaithful) ∷ (eqb (l .count) 0, NothingStands) ∷ [])
+withdrawRefusal l = firstOf (withdrawRow l)
 
 -- the latest record gone, its place blank
 unfoldable pub withoutLatest : Layout → Layout
