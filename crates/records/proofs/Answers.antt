@@ -6,7 +6,7 @@ use mathlib.Core.List.{List, []}
 use mathlib.Core.Option.{none, some}
 use borrow.Author.Tests.{le-leb, lt-leb}
 use Rattle.records.specs.Settings.{inBounds, blankConfig, emptyLayout}
-use Rattle.records.specs.Layouts.{standing, wellFormed, pageCount, pageSide}
+use Rattle.records.specs.Layouts.{standing, wellFormed, pageCount, sizeOfPage}
 use Rattle.records.specs.Operations.{openRow, openRefusal, openAnswer, opened, noSuchPage, sizeRow, sizeRefusal, sizeAnswer, pageSized}
 use Rattle.records.specs.declared.texture_packer_config.Config.{Config}
 use Rattle.records.specs.declared.frame.Page.{Page}
@@ -59,8 +59,8 @@ module _ (l : Layout) (p : Page) where
 
   pub sized-refused : {r : Refusal} → sizeRefusal l p ≡ some r → pageSized l p ≡ SizeRefused r
   unfolding pageSized
-  sized-refused e = ap (sizeAnswer (pageSide l p)) e
+  sized-refused e = ap (sizeAnswer (sizeOfPage l p)) e
 
-  pub sized-is : sizeRefusal l p ≡ none → pageSized l p ≡ Is (pageSide l p)
+  pub sized-is : sizeRefusal l p ≡ none → pageSized l p ≡ Is (sizeOfPage l p)
   unfolding pageSized
-  sized-is e = ap (sizeAnswer (pageSide l p)) e
+  sized-is e = ap (sizeAnswer (sizeOfPage l p)) e

@@ -14,7 +14,7 @@ use Rattle.geometry.specs.declared.rect.Size.{Size}
 use Rattle.geometry.proofs.Members.{greatest-le}
 use Rattle.records.specs.Settings.{blankRecord}
 use Rattle.records.specs.Records.{isBlank, recordWellFormed}
-use Rattle.records.specs.Layouts.{standing, unused, wellFormed, hasKey, recordOf, keyPlace, onPage, pageCount, endsOf, pageSide}
+use Rattle.records.specs.Layouts.{standing, unused, wellFormed, hasKey, recordOf, keyPlace, onPage, pageCount, endsOf, sizeOfPage}
 use Rattle.records.specs.declared.frame.Key.{Key}
 use Rattle.records.specs.declared.frame.Page.{Page}
 use Rattle.records.specs.declared.frame.Record.{Record}
@@ -71,39 +71,39 @@ count-reached rs h = reached (λ (r : Record). r .page .0 + 1) rs h
 -- forced: `side-forced` of Pages
 
 module _ (l : Layout) (p : Page) (free : l .config .forced ≡ false) where
-  side-is : pageSide l p ≡ endsOf (l .config .border) (onPage (p .0) (standing l))
+  side-is : sizeOfPage l p ≡ endsOf (l .config .border) (onPage (p .0) (standing l))
   side-is = side-ends l p free
 
-  width-is : pageSide l p .w ≡ greatest (λ (r : Record). rightOf (r .frame) + 1 + l .config .border) (onPage (p .0) (standing l))
+  width-is : sizeOfPage l p .w ≡ greatest (λ (r : Record). rightOf (r .frame) + 1 + l .config .border) (onPage (p .0) (standing l))
   unfolding endsOf
   width-is = ap (λ (s : Size). s .w) side-is
 
-  height-is : pageSide l p .h ≡ greatest (λ (r : Record). bottomOf (r .frame) + 1 + l .config .border) (onPage (p .0) (standing l))
+  height-is : sizeOfPage l p .h ≡ greatest (λ (r : Record). bottomOf (r .frame) + 1 + l .config .border) (onPage (p .0) (standing l))
   unfolding endsOf
   height-is = ap (λ (s : Size). s .h) side-is
 
   -- every frame of the page ends within it
-  pub width-holds : (r : Record) → List·Memᴰ r (onPage (p .0) (standing l)) → rightOf (r .frame) + 1 + l .config .border ≤ pageSide l p .w
+  pub width-holds : (r : Record) → List·Memᴰ r (onPage (p .0) (standing l)) → rightOf (r .frame) + 1 + l .config .border ≤ sizeOfPage l p .w
   width-holds r m =
       omega (arith, width-is, greatest-le (λ (q : Record). rightOf (q .frame) + 1 + l .config .border) (onPage (p .0) (standing l)) m)
 
-  pub height-holds : (r : Record) → List·Memᴰ r (onPage (p .0) (standing l)) → bottomOf (r .frame) + 1 + l .config .border ≤ pageSide l p .h
+  pub height-holds : (r : Record) → List·Memᴰ r (onPage (p .0) (standing l)) → bottomOf (r .frame) + 1 + l .config .border ≤ sizeOfPage l p .h
   height-holds r m =
       omega (arith, height-is, greatest-le (λ (q : Record). bottomOf (q .frame) + 1 + l .config .border) (onPage (p .0) (standing l)) m)
 
   -- and one of them ends there
-  pub width-reached : 0 < pageSide l p .w
-      → (r : Record) × List·Memᴰ r (onPage (p .0) (standing l)) × (rightOf (r .frame) + 1 + l .config .border ≡ pageSide l p .w)
+  pub width-reached : 0 < sizeOfPage l p .w
+      → (r : Record) × List·Memᴰ r (onPage (p .0) (standing l)) × (rightOf (r .frame) + 1 + l .config .border ≡ sizeOfPage l p .w)
   width-reached h =
       let r = reached (λ (q : Record). rightOf (q .frame) + 1 + l .config .border) (onPage (p .0) (standing l)) (omega (arith, width-is)) in
       (r .0, r .1, r .2 ∙ sym width-is)
 
-  pub height-reached : 0 < pageSide l p .h
-      → (r : Record) × List·Memᴰ r (onPage (p .0) (standing l)) × (bottomOf (r .frame) + 1 + l .config .border ≡ pageSide l p .h)
+  pub height-reached : 0 < sizeOfPage l p .h
+      → (r : Record) × List·Memᴰ r (onPage (p .0) (standing l)) × (bottomOf (r .frame) + 1 + l .config .border ≡ sizeOfPage l p .h)
   height-reached h =
       let r = reached (λ (q : Record). bottomOf (q .frame) + 1 + l .config .border) (onPage (p .0) (standing l)) (omega (arith, height-is)) in
       (r .0, r .1, r .2 ∙ sym height-is)
 
-  pub empty-size : onPage (p .0) (standing l) ≡ [] → pageSide l p ≡ record { w = 0; h = 0 }
+  pub empty-size : onPage (p .0) (standing l) ≡ [] → sizeOfPage l p ≡ record { w = 0; h = 0 }
   unfolding endsOf greatest
   empty-size e = side-is ∙ ap (endsOf (l .config .border)) e

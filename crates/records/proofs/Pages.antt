@@ -9,7 +9,7 @@ use Rattle.geometry.specs.Words.{only, greatest}
 use Rattle.geometry.specs.Rects.{rightOf, bottomOf}
 use Rattle.geometry.proofs.Words.{only-append, greatest-append}
 use Rattle.geometry.proofs.Members.{only-mem, greatest-le, greatest-least}
-use Rattle.records.specs.Layouts.{standing, wellFormed, onPage, pageCount, endsOf, pageSide}
+use Rattle.records.specs.Layouts.{standing, wellFormed, onPage, pageCount, endsOf, sizeOfPage}
 use Rattle.records.specs.Ends.{endAt, grows}
 use Rattle.records.specs.declared.frame.Page.{Page}
 use Rattle.records.specs.declared.frame.Record.{Record}
@@ -104,13 +104,13 @@ grows-past on a n b most e h g = rw e (omega arith)
 -- ## the sides of a page
 
 module _ (l : Layout) (p : Page) where
-  pub side-forced : l .config .forced ≡ true → pageSide l p ≡ record { w = l .config .maxw; h = l .config .maxh }
-  unfolding pageSide
+  pub side-forced : l .config .forced ≡ true → sizeOfPage l p ≡ record { w = l .config .maxw; h = l .config .maxh }
+  unfolding sizeOfPage
   side-forced e =
       ap (λ (b : Bool). cond b (record { w = l .config .maxw; h = l .config .maxh }) (endsOf (l .config .border) (onPage (p .0) (standing l)))) e
 
-  pub side-ends : l .config .forced ≡ false → pageSide l p ≡ endsOf (l .config .border) (onPage (p .0) (standing l))
-  unfolding pageSide
+  pub side-ends : l .config .forced ≡ false → sizeOfPage l p ≡ endsOf (l .config .border) (onPage (p .0) (standing l))
+  unfolding sizeOfPage
   side-ends e =
       ap (λ (b : Bool). cond b (record { w = l .config .maxw; h = l .config .maxh }) (endsOf (l .config .border) (onPage (p .0) (standing l)))) e
 
@@ -132,8 +132,8 @@ module _ (l : Layout) (e : wellFormed l ≡ true) (p : Page) where
   unfolding onPage
   on-page-good m = formed l e .each _ (only-mem (λ (s : Record). eqb (s .page .0) (p .0)) (standing l) m .0)
 
-  pub side-w : pageSide l p .w ≤ 6271
-  unfolding pageSide endsOf
+  pub side-w : sizeOfPage l p .w ≤ 6271
+  unfolding sizeOfPage endsOf
   side-w = go (l .config .forced)
     where
       f : Formed l
@@ -145,8 +145,8 @@ module _ (l : Layout) (e : wellFormed l ≡ true) (p : Page) where
           greatest-least (λ (s : Record). rightOf (s .frame) + 1 + l .config .border) (onPage (p .0) (standing l)) 6271
           (λ r m. omega (arith, ends-few l f (on-page-good m) .w, framed (l .config) r (on-page-good m) .some-w))
 
-  pub side-h : pageSide l p .h ≤ 6271
-  unfolding pageSide endsOf
+  pub side-h : sizeOfPage l p .h ≤ 6271
+  unfolding sizeOfPage endsOf
   side-h = go (l .config .forced)
     where
       f : Formed l

@@ -17,7 +17,7 @@ use Rattle.records.specs.declared.layout.Opened.{Opened}
 use Rattle.records.specs.declared.layout.Sized.{Sized}
 use Rattle.records.specs.Settings.{inBounds, blankConfig, blankRecord, emptyLayout}
 use Rattle.records.specs.Records.{isBlank, recordWellFormed}
-use Rattle.records.specs.Layouts.{standing, unused, wellFormed, pageCount, pageSide}
+use Rattle.records.specs.Layouts.{standing, unused, wellFormed, pageCount, sizeOfPage}
 use Rattle.records.specs.declared.texture_packer_config.Config.{Config}
 use Rattle.records.specs.declared.frame.Page.{Page}
 use Rattle.records.specs.declared.layout.Layout.{Layout}
@@ -65,11 +65,11 @@ module _ (c : Config) where
       go e (inr b) = let a = answer-of (opened-refused c b) in ((cc), b)
 
 module _ (l : Layout) (p : Page) where
-  answered : {r : Refusal} (o : Option Refusal) → sizeAnswer (pageSide l p) o ≡ SizeRefused r → o ≡ some r
+  answered : {r : Refusal} (o : Option Refusal) → sizeAnswer (sizeOfPage l p) o ≡ SizeRefused r → o ≡ some r
   answered none e = let z : _≡_ {A = ℕ} 0 1 = cc in absurd (omega arith)
   answered (some q) e = cc
 
-  given : {s : Size} (o : Option Refusal) → sizeAnswer (pageSide l p) o ≡ Is s → (o ≡ none) × (s ≡ pageSide l p)
+  given : {s : Size} (o : Option Refusal) → sizeAnswer (sizeOfPage l p) o ≡ Is s → (o ≡ none) × (s ≡ sizeOfPage l p)
   given none e = (refl, (cc))
   given (some q) e = let z : _≡_ {A = ℕ} 0 1 = cc in absurd (omega arith)
 
@@ -96,11 +96,11 @@ module _ (l : Layout) (p : Page) where
           (not-false _ (h .0 .0), leb-true _ _ (h .1))
 
   -- no number: the size
-  pub size-is : (s : Size) → pageSized l p ≡ Is s ↔ (wellFormed l ≡ true) × (p .0 < pageCount (standing l)) × (s ≡ pageSide l p)
+  pub size-is : (s : Size) → pageSized l p ≡ Is s ↔ (wellFormed l ≡ true) × (p .0 < pageCount (standing l)) × (s ≡ sizeOfPage l p)
   unfolding pageSized sizeRefusal sizeRow noSuchPage
   size-is s = (to, λ h. sized-is l p (size-passes l p (h .0) (h .1)) ∙ ap Is (sym (h .2)))
     where
-      to : pageSized l p ≡ Is s → (wellFormed l ≡ true) × (p .0 < pageCount (standing l)) × (s ≡ pageSide l p)
+      to : pageSized l p ≡ Is s → (wellFormed l ≡ true) × (p .0 < pageCount (standing l)) × (s ≡ sizeOfPage l p)
       to e =
           let g = given (sizeRefusal l p) e in
           let two = passed (not (wellFormed l)) NotWellFormed ((noSuchPage l p, NoSuchPage) ∷ []) (g .0) in

@@ -60,8 +60,8 @@ endsOf b rs =
     }
 
 -- the maxima if forced; else where the page's frames end
-unfoldable pub pageSide : Layout → Page → Size
-pageSide l p =
+unfoldable pub sizeOfPage : Layout → Page → Size
+sizeOfPage l p =
     cond (l .config .forced)
     (record { w = l .config .maxw; h = l .config .maxh })
     (endsOf (l .config .border) (onPage (p .0) (standing l)))

@@ -8,7 +8,7 @@ use lib.Dec.{leb}
 use Rattle.geometry.specs.declared.rect.Size.{Size}
 use Rattle.records.specs.Refusals.{numberOf, Row, firstOf}
 use Rattle.records.specs.Settings.{inBounds, blankConfig, emptyLayout}
-use Rattle.records.specs.Layouts.{standing, wellFormed, pageCount, pageSide}
+use Rattle.records.specs.Layouts.{standing, wellFormed, pageCount, sizeOfPage}
 use Rattle.records.specs.declared.texture_packer_config.Config.{Config}
 use Rattle.records.specs.declared.frame.Page.{Page}
 use Rattle.records.specs.declared.layout.Layout.{Layout}
@@ -57,7 +57,7 @@ sizeAnswer s none = Is s
 sizeAnswer s (some r) = SizeRefused r
 
 unfoldable pub pageSized : Layout → Page → Sized
-pageSized l p = sizeAnswer (pageSide l p) (sizeRefusal l p)
+pageSized l p = sizeAnswer (sizeOfPage l p) (sizeRefusal l p)
 
 abbrev pub sizedNumbers : Sized → List ℕ
 sizedNumbers (Is s) = 0 ∷ s .w ∷ s .h ∷ []

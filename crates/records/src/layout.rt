@@ -5,7 +5,7 @@ ghost use Prim.Native.Nat.{_+_, _≤_, _<_, max};
 ghost use Rattle.geometry.specs.Words.{all};
 ghost use Rattle.records.specs.Settings.{inBounds, emptyLayout};
 ghost use Rattle.records.specs.Records.{isBlank, recordWellFormed};
-ghost use Rattle.records.specs.Layouts.{standing, unused, wellFormed, onPage, pageCount, keyPlace, endsOf, pageSide};
+ghost use Rattle.records.specs.Layouts.{standing, unused, wellFormed, onPage, pageCount, keyPlace, endsOf, sizeOfPage};
 ghost use Rattle.records.specs.Ends.{endAt, grows};
 ghost use Rattle.records.specs.Operations.{opened, openedNumbers, pageSized, sizedNumbers};
 use crate::frame;
@@ -189,9 +189,9 @@ fn frame_ends(l: Layout, page: Page) -> Size
 }
 
 // The maxima if forced; else where the page's frames end. For callers that have asked `well_formed`.
-pub fn page_side(l: Layout, page: Page) -> Size
+pub fn size_of_page(l: Layout, page: Page) -> Size
     requires { ⌜ wellFormed l ≡ true ⌝ }
-    ensures { λ r. ⌜ r ≡ pageSide l page ⌝ }
+    ensures { λ r. ⌜ r ≡ sizeOfPage l page ⌝ }
 {
     let c = l.config;
     if c.forced {
@@ -214,5 +214,5 @@ pub fn page_size(l: Layout, page: Page) -> Sized
     if page_count(l) <= page.0 {
         return Sized::Refused(Refusal::NoSuchPage);
     }
-    Sized::Is(page_side(l, page))
+    Sized::Is(size_of_page(l, page))
 }

@@ -26,11 +26,11 @@ page-count-requires c κs = formed c
 returns-2 : tie.Need-returns-2
 returns-2 c = says sizedNumbers (sym (sized-refused _ _ (size-no-page _ _ (formed (c .before .before .before)) (omega arith))))
 
-page-side-requires : tie.Need-page-side-requires
-page-side-requires c κs = formed (c .before .before .before)
+size-of-page-requires : tie.Need-size-of-page-requires
+size-of-page-requires c κs = formed (c .before .before .before)
 
 returns-3 : tie.Need-returns-3
-returns-3 c = says sizedNumbers (ap Is (c .page-side .ensures) ∙ sym (sized-is _ _ (size-passes _ _ (formed (c .before .before .before .before)) (omega arith))))
+returns-3 c = says sizedNumbers (ap Is (c .size-of-page .ensures) ∙ sym (sized-is _ _ (size-passes _ _ (formed (c .before .before .before .before)) (omega arith))))
 
 pub page-size-spec : {M : Type 1} → statement M
 page-size-spec =
@@ -40,5 +40,5 @@ page-size-spec =
     returns
     page-count-requires
     returns-2
-    page-side-requires
+    size-of-page-requires
     returns-3)
