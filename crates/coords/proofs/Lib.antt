@@ -1,0 +1,2 @@
+pub mod Casts
+pub mod Answers

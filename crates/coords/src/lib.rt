@@ -1,0 +1,2 @@
+// Texture coordinates of a standing image.
+pub mod coords;
