@@ -3,8 +3,8 @@ use Prim.Native.Nat.{ℕ, _+_, _≤_, _<_}
 use native.Mathlib.Omega.{arith}
 use mathlib.Core.Path.{_≡_, refl, sym, ap, _∙_, subst}
 use mathlib.Core.Bool.{Bool, true, false, not}
-use mathlib.Core.List.{[], _∷_}
-use mathlib.Core.Option.{Option}
+use mathlib.Core.List.{[], _∷_, List·Memᴰ}
+use mathlib.Core.Option.{Option, some}
 use lib.ListN.{length, getD}
 use lib.Ieee.{Float}
 use Rattle.geometry.specs.Words.{any, orElse}
@@ -18,9 +18,9 @@ use Rattle.records.specs.declared.frame.Record.{Record}
 use Rattle.records.specs.declared.layout.Layout.{Layout}
 use Rattle.records.specs.declared.refusal.Refusal.{Refusal}
 use Rattle.records.specs.declared.refusal.Refusal.the-variants.{NotWellFormed, NoSuchKey, BadInset, PastPage}
-use Rattle.records.proofs.Rows.{hit, skipped, none-left}
-use Rattle.records.proofs.Checks.{formed}
-use Rattle.records.proofs.Keys.{named as named-by, unnamed}
+use Rattle.records.proofs.Rows.{hit, skipped, none-left, at-in}
+use Rattle.records.proofs.Checks.{Good, formed}
+use Rattle.records.proofs.Keys.{named as named-by, stands-below}
 use Rattle.records.proofs.Pages.{ends-few, side-w, side-h}
 use Rattle.coords.specs.Coordinates.{nought, corners, named, pageOf, between, pastEdge, wanted, locateRow, locateRefusal, locateAnswer, located}
 use Rattle.coords.specs.Parts.{Countable, requestRow, texelAnswer}
@@ -70,54 +70,66 @@ module _ (l : Layout) (k : Key) where
   unfolding named recordOf
   names h = ap (λ (o : Option Record). orElse o blankRecord) (named-by k (standing l) h .is)
 
-  module _ (e : wellFormed l ≡ true) (h : keyPlace k (standing l) < length (standing l)) where
+  -- a key that stands names a standing record
+  pub named-in : any (hasKey k) (standing l) ≡ true → List·Memᴰ (named l k) (standing l)
+  named-in t =
+      let h = stands-below k (standing l) t in
+      subst (λ (r : Record). List·Memᴰ r (standing l)) (sym (names h)) (at-in (standing l) blankRecord (keyPlace k (standing l)) h)
+
+  module _ (e : wellFormed l ≡ true) (t : any (hasKey k) (standing l) ≡ true) where
+    pub named-good : Good (l .config) (named l k)
+    named-good = formed l e .each (named l k) (named-in t)
+
     -- its frame and its page are small
-    counted : Countable (placed .frame) (sizeOfPage l (placed .page))
-    counted =
-        let ends = ends-few l (formed l e) (formed l e .at (keyPlace k (standing l)) h) in
+    pub countable : Countable (named l k .frame) (pageOf l k)
+    unfolding pageOf
+    countable =
+        let ends = ends-few l (formed l e) named-good in
         record {
           right = omega (arith, ends .w);
           bottom = omega (arith, ends .h);
-          width = omega (arith, side-w l e (placed .page));
-          height = omega (arith, side-h l e (placed .page));
+          width = omega (arith, side-w l e (named l k .page));
+          height = omega (arith, side-h l e (named l k .page));
         }
 
-    -- as the code reads them
-    pub countable : (r : Record) (s : Size) → r ≡ placed → s ≡ sizeOfPage l (r .page) → Countable (r .frame) s
-    countable r s p z =
-        subst (λ (t : Size). Countable (r .frame) t) (sym z)
-        (subst (λ (n : Record). Countable (n .frame) (sizeOfPage l (n .page))) (sym p) counted)
-
-    pub countable-named : Countable (named l k .frame) (pageOf l k)
-    unfolding pageOf
-    countable-named = countable (named l k) (sizeOfPage l (named l k .page)) (names h) refl
-
 module _ (l : Layout) (k : Key) (q : Request) where
-  abbrev answer : Option Refusal → Located
-  answer = locateAnswer (wanted q (named l k .frame) (pageOf l k))
+  pub refuses : {r : Refusal} → locateRefusal l k q ≡ some r → located l k q ≡ Refused r
+  unfolding located
+  refuses e = ap (locateAnswer (wanted q (named l k .frame) (pageOf l k))) e
 
   pub unformed : wellFormed l ≡ false → located l k q ≡ Refused NotWellFormed
-  unfolding located locateRefusal locateRow
-  unformed e = ap answer (hit (not (wellFormed l)) NotWellFormed _ (ap not e))
+  unfolding locateRefusal locateRow
+  unformed e = refuses (hit (not (wellFormed l)) NotWellFormed _ (ap not e))
 
-  pub keyless : wellFormed l ≡ true → length (standing l) ≤ keyPlace k (standing l) → located l k q ≡ Refused NoSuchKey
-  unfolding located locateRefusal locateRow
-  keyless e h =
-      ap answer
-      (skipped (not (wellFormed l)) NotWellFormed _ (ap not e)
-      ∙ hit (not (any (hasKey k) (standing l))) NoSuchKey _ (ap not (unnamed k (standing l) h .stands)))
+  pub keyless : wellFormed l ≡ true → any (hasKey k) (standing l) ≡ false → located l k q ≡ Refused NoSuchKey
+  unfolding locateRefusal locateRow
+  keyless e t =
+      refuses
+      (skipped (not (wellFormed l)) NotWellFormed _ (ap not e) ∙ hit (not (any (hasKey k) (standing l))) NoSuchKey _ (ap not t))
 
   pub found : wellFormed l ≡ true → any (hasKey k) (standing l) ≡ true → located l k q ≡ requested q (named l k .frame) (pageOf l k)
   unfolding located locateRefusal locateRow
   found e t =
-      ap answer
+      ap (locateAnswer (wanted q (named l k .frame) (pageOf l k)))
       (skipped (not (wellFormed l)) NotWellFormed _ (ap not e) ∙ skipped (not (any (hasKey k) (standing l))) NoSuchKey _ (ap not t))
 
-  -- as the code reads them
-  pub found-at : wellFormed l ≡ true → keyPlace k (standing l) < length (standing l) → (r : Record) (s : Size) → r ≡ placed l k → s ≡ sizeOfPage l (r .page)
-      → located l k q ≡ requested q (r .frame) s
-  unfolding pageOf
-  found-at e h r s p z =
-      found e (named-by k (standing l) h .stands)
-      ∙ ap (λ (n : Record). requested q (n .frame) (sizeOfPage l (n .page))) (names l k h ∙ sym p)
-      ∙ ap (requested q (r .frame)) (sym z)
+-- ## the same, as the code reads them: r at the key's place, s its page's size
+
+module _ (l : Layout) (k : Key) (e : wellFormed l ≡ true) (h : keyPlace k (standing l) < length (standing l))
+    (r : Record) (s : Size) (p : r ≡ placed l k) (z : s ≡ sizeOfPage l (r .page))
+  where
+    frame-is : named l k .frame ≡ r .frame
+    frame-is = ap (λ (n : Record). n .frame) (names l k h ∙ sym p)
+
+    page-is : pageOf l k ≡ s
+    unfolding pageOf
+    page-is = ap (λ (n : Record). sizeOfPage l (n .page)) (names l k h ∙ sym p) ∙ sym z
+
+    stands : any (hasKey k) (standing l) ≡ true
+    stands = named-by k (standing l) h .stands
+
+    pub read-countable : Countable (r .frame) s
+    read-countable = subst (λ (t : Size). Countable (r .frame) t) page-is (subst (λ (f : Rect). Countable f (pageOf l k)) frame-is (countable l k e stands))
+
+    pub read-found : (q : Request) {a : Located} → a ≡ requested q (r .frame) s → a ≡ located l k q
+    read-found q g = g ∙ sym (found l k q e stands ∙ ap (λ (f : Rect). requested q f (pageOf l k)) frame-is ∙ ap (requested q (r .frame)) page-is)

@@ -10,9 +10,10 @@ use Rattle.records.specs.Settings.{blankRecord}
 use Rattle.records.specs.Layouts.{standing, wellFormed, keyPlace}
 use Rattle.records.proofs.Answers.{says}
 use Rattle.records.proofs.Checks.{formed}
+use Rattle.records.proofs.Keys.{unnamed}
 use Rattle.records.proofs.Standing.{standing-long, standing-at}
 use Rattle.coords.specs.Coordinates.{locatedNumbers}
-use Rattle.coords.proofs.Answers.{placed, countable, unformed, keyless, found-at}
+use Rattle.coords.proofs.Answers.{placed, unformed, keyless, read-countable, read-found}
 use Rattle.coords.proofs.coords.coordinates.Statement.{statement}
 use Rattle.coords.proofs.coords.coordinates.Tie as tie
 
@@ -50,7 +51,7 @@ returns-2 : tie.Need-returns-2
 returns-2 c =
     let e = c .before .before in
     let n = counted e in
-    says locatedNumbers (sym (keyless _ _ _ (well e) (omega (arith, c .before .find-key .ensures))))
+    says locatedNumbers (sym (keyless _ _ _ (well e) (unnamed _ _ (omega (arith, c .before .find-key .ensures)) .stands)))
 
 mul-r : tie.Need-mul-r
 mul-r c = let f = formed _ (well (c .before .before)) .few in omega arith
@@ -63,13 +64,13 @@ size-of-page-requires c κs = well (c .before .before .before)
 
 locate-requires : tie.Need-locate-requires
 unfolding blankRecord
-locate-requires c κs = let at = c .before .before in countable _ _ (well (at .before .before)) (below at) _ _ (here at) (c .size-of-page .ensures)
+locate-requires c κs = let at = c .before .before in read-countable _ _ (well (at .before .before)) (below at) _ _ (here at) (c .size-of-page .ensures)
 
 returns-3 : tie.Need-returns-3
 unfolding blankRecord
 returns-3 c =
     let at = c .before .before .before in
-    says locatedNumbers (c .locate .ensures ∙ sym (found-at _ _ _ (well (at .before .before)) (below at) _ _ (here at) (c .before .size-of-page .ensures)))
+    says locatedNumbers (read-found _ _ (well (at .before .before)) (below at) _ _ (here at) (c .before .size-of-page .ensures) _ (c .locate .ensures))
 
 pub coordinates-spec : {M : Type 1} → statement M
 coordinates-spec =

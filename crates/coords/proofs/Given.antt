@@ -1,0 +1,85 @@
+-- From an answer back to the row: what holds where a number is answered, and where none is. Assumes nothing.
+use Prim.Native.Nat.{ℕ, _+_, _≤_}
+use native.Mathlib.Omega.{arith}
+use mathlib.Core.Path.{_≡_, refl}
+use mathlib.Core.Bool.{true, false, not}
+use mathlib.Core.List.{[], _∷_}
+use mathlib.Core.Option.{Option, none, some}
+use lib.Dec.{ltb}
+use borrow.Author.Tests.{not-false, ltb-false}
+use Rattle.geometry.specs.Words.{any}
+use Rattle.geometry.specs.declared.rect.Rect.{Rect}
+use Rattle.geometry.specs.declared.rect.Size.{Size}
+use Rattle.geometry.proofs.Words.{or-no-left, or-no-right}
+use Rattle.records.specs.Layouts.{standing, wellFormed, hasKey}
+use Rattle.records.specs.declared.frame.Key.{Key}
+use Rattle.records.specs.declared.layout.Layout.{Layout}
+use Rattle.records.specs.declared.refusal.Refusal.{Refusal}
+use Rattle.records.specs.declared.refusal.Refusal.the-variants.{NotWellFormed, NoSuchKey, BadInset, PastPage}
+use Rattle.records.proofs.Rows.{passed}
+use Rattle.coords.specs.Coordinates.{corners, named, pageOf, badInset, pastEdge, outOfPage, wanted, locateRow, locateRefusal, locateAnswer, located}
+use Rattle.coords.specs.declared.coords.Corners.{Corners}
+use Rattle.coords.specs.declared.coords.Request.{Request}
+use Rattle.coords.specs.declared.coords.Request.the-variants.{Pixels as AskPixels, Edges, Inset}
+use Rattle.coords.specs.declared.coords.Located.{Located}
+use Rattle.coords.specs.declared.coords.Located.the-variants.{Pixels, Texels, Refused}
+
+-- ## which case
+
+refused-by : {r : Refusal} (q : Request) (f : Rect) (s : Size) (o : Option Refusal) → locateAnswer (wanted q f s) o ≡ Refused r → o ≡ some r
+refused-by q f s (some n) e = cc
+refused-by AskPixels f s none e = let z : _≡_ {A = ℕ} 0 1 = cc in absurd (omega arith)
+refused-by Edges f s none e = let z : _≡_ {A = ℕ} 0 1 = cc in absurd (omega arith)
+refused-by (Inset i) f s none e = let z : _≡_ {A = ℕ} 0 1 = cc in absurd (omega arith)
+
+pixels-by : {f : Rect} (a : Located) (o : Option Refusal) → locateAnswer a o ≡ Pixels f → (o ≡ none) × (a ≡ Pixels f)
+pixels-by a none e = (refl, e)
+pixels-by a (some r) e = let z : _≡_ {A = ℕ} 0 1 = cc in absurd (omega arith)
+
+texels-by : {c : Corners} (a : Located) (o : Option Refusal) → locateAnswer a o ≡ Texels c → (o ≡ none) × (a ≡ Texels c)
+texels-by a none e = (refl, e)
+texels-by a (some r) e = let z : _≡_ {A = ℕ} 0 1 = cc in absurd (omega arith)
+
+module _ (l : Layout) (k : Key) (q : Request) where
+  pub refusal-of : {r : Refusal} → located l k q ≡ Refused r → locateRefusal l k q ≡ some r
+  unfolding located
+  refusal-of e = refused-by q (named l k .frame) (pageOf l k) (locateRefusal l k q) e
+
+  pub pixels-of : {f : Rect} → located l k q ≡ Pixels f → (locateRefusal l k q ≡ none) × (wanted q (named l k .frame) (pageOf l k) ≡ Pixels f)
+  unfolding located
+  pixels-of e = pixels-by (wanted q (named l k .frame) (pageOf l k)) (locateRefusal l k q) e
+
+  pub texels-of : {c : Corners} → located l k q ≡ Texels c → (locateRefusal l k q ≡ none) × (wanted q (named l k .frame) (pageOf l k) ≡ Texels c)
+  unfolding located
+  texels-of e = texels-by (wanted q (named l k .frame) (pageOf l k)) (locateRefusal l k q) e
+
+-- ## no check holds
+
+pub record Passed (l : Layout) (k : Key) (q : Request) : Type 0 where
+  pub formed : wellFormed l ≡ true
+  pub stands : any (hasKey k) (standing l) ≡ true
+  pub inset : badInset q ≡ false
+  pub page : outOfPage q (named l k .frame) (pageOf l k) ≡ false
+
+module _ (l : Layout) (k : Key) (q : Request) where
+  pub passed-row : locateRefusal l k q ≡ none → Passed l k q
+  unfolding locateRefusal locateRow
+  passed-row e =
+      let two = passed (not (wellFormed l)) NotWellFormed _ e in
+      let fifteen = passed (not (any (hasKey k) (standing l))) NoSuchKey _ (two .1) in
+      let seventeen = passed (badInset q) BadInset _ (fifteen .1) in
+      let sixteen = passed (outOfPage q (named l k .frame) (pageOf l k)) PastPage [] (seventeen .1) in
+      record { formed = not-false _ (two .0); stands = not-false _ (fifteen .0); inset = seventeen .0; page = sixteen .0 }
+
+-- ## a frame that is not past the page
+
+pub record EndsOn (f : Rect) (s : Size) : Type 0 where
+  pub right : f .x + f .w ≤ s .w
+  pub bottom : f .y + f .h ≤ s .h
+
+pub not-past : (f : Rect) (s : Size) → pastEdge f s ≡ false → EndsOn f s
+unfolding pastEdge
+not-past f s e = record {
+  right = ltb-false _ _ (or-no-left (ltb (s .w) (f .x + f .w)) (ltb (s .h) (f .y + f .h)) e);
+  bottom = ltb-false _ _ (or-no-right (ltb (s .w) (f .x + f .w)) (ltb (s .h) (f .y + f .h)) e);
+}
