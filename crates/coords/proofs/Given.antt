@@ -1,28 +1,33 @@
 -- From an answer back to the row: what holds where a number is answered, and where none is. Assumes nothing.
-use Prim.Native.Nat.{ℕ, _+_, _≤_}
+use Prim.Native.Nat.{ℕ, _+_, _≤_, _<_}
 use native.Mathlib.Omega.{arith}
 use mathlib.Core.Path.{_≡_, refl}
 use mathlib.Core.Bool.{true, false, not}
-use mathlib.Core.List.{[], _∷_}
+use mathlib.Core.List.{[], _∷_, List·Memᴰ}
 use mathlib.Core.Option.{Option, none, some}
-use lib.Dec.{ltb}
-use borrow.Author.Tests.{not-false, ltb-false}
+use lib.Dec.{ltb, eqb}
+use borrow.Author.Tests.{not-false, ltb-false, le-ltb, eq-eqb}
 use Rattle.geometry.specs.Words.{any}
 use Rattle.geometry.specs.declared.rect.Rect.{Rect}
 use Rattle.geometry.specs.declared.rect.Size.{Size}
+use Rattle.geometry.proofs.Members.{only-in}
 use Rattle.geometry.proofs.Words.{or-no-left, or-no-right}
-use Rattle.records.specs.Layouts.{standing, wellFormed, hasKey}
+use Rattle.records.specs.Layouts.{standing, wellFormed, hasKey, onPage, sizeOfPage}
 use Rattle.records.specs.declared.frame.Key.{Key}
+use Rattle.records.specs.declared.frame.Record.{Record}
 use Rattle.records.specs.declared.layout.Layout.{Layout}
 use Rattle.records.specs.declared.refusal.Refusal.{Refusal}
 use Rattle.records.specs.declared.refusal.Refusal.the-variants.{NotWellFormed, NoSuchKey, BadInset, PastPage}
 use Rattle.records.proofs.Rows.{passed}
+use Rattle.records.proofs.Checks.{framed}
+use Rattle.records.proofs.Layouts.{width-holds, height-holds}
 use Rattle.coords.specs.Coordinates.{corners, named, pageOf, badInset, pastEdge, outOfPage, wanted, locateRow, locateRefusal, locateAnswer, located}
 use Rattle.coords.specs.declared.coords.Corners.{Corners}
 use Rattle.coords.specs.declared.coords.Request.{Request}
 use Rattle.coords.specs.declared.coords.Request.the-variants.{Pixels as AskPixels, Edges, Inset}
 use Rattle.coords.specs.declared.coords.Located.{Located}
 use Rattle.coords.specs.declared.coords.Located.the-variants.{Pixels, Texels, Refused}
+use Rattle.coords.proofs.Answers.{named-in, named-good}
 
 -- ## which case
 
@@ -73,13 +78,38 @@ module _ (l : Layout) (k : Key) (q : Request) where
 
 -- ## a frame that is not past the page
 
-pub record EndsOn (f : Rect) (s : Size) : Type 0 where
-  pub right : f .x + f .w ≤ s .w
-  pub bottom : f .y + f .h ≤ s .h
+-- so the page's sides are not 0
+pub record Sides (s : Size) : Type 0 where
+  pub wide : 0 < s .w
+  pub tall : 0 < s .h
 
-pub not-past : (f : Rect) (s : Size) → pastEdge f s ≡ false → EndsOn f s
+pub sides : (l : Layout) (k : Key) → wellFormed l ≡ true → any (hasKey k) (standing l) ≡ true → pastEdge (named l k .frame) (pageOf l k) ≡ false → Sides (pageOf l k)
 unfolding pastEdge
-not-past f s e = record {
-  right = ltb-false _ _ (or-no-left (ltb (s .w) (f .x + f .w)) (ltb (s .h) (f .y + f .h)) e);
-  bottom = ltb-false _ _ (or-no-right (ltb (s .w) (f .x + f .w)) (ltb (s .h) (f .y + f .h)) e);
-}
+sides l k e t p =
+    let f = named l k .frame in
+    let s = pageOf l k in
+    let small = framed (l .config) (named l k) (named-good l k e t) in
+    let right : f .x + f .w ≤ s .w = ltb-false _ _ (or-no-left (ltb (s .w) (f .x + f .w)) (ltb (s .h) (f .y + f .h)) p) in
+    let bottom : f .y + f .h ≤ s .h = ltb-false _ _ (or-no-right (ltb (s .w) (f .x + f .w)) (ltb (s .h) (f .y + f .h)) p) in
+    record { wide = omega (arith, small .some-w); tall = omega (arith, small .some-h) }
+
+-- ## a page that is not forced ends no earlier than its frames
+
+module _ (l : Layout) (k : Key) (e : wellFormed l ≡ true) (t : any (hasKey k) (standing l) ≡ true) (free : l .config .forced ≡ false) where
+  on-page : List·Memᴰ (named l k) (onPage (named l k .page .0) (standing l))
+  unfolding onPage
+  on-page = only-in (λ (r : Record). eqb (r .page .0) (named l k .page .0)) (standing l) (named-in l k t) (eq-eqb (named l k .page .0) (named l k .page .0) refl)
+
+  free-inside : pastEdge (named l k .frame) (pageOf l k) ≡ false
+  unfolding pastEdge pageOf
+  free-inside =
+      let p = named l k .page in
+      let f = framed (l .config) (named l k) (named-good l k e t) in
+      let w = le-ltb (sizeOfPage l p .w) (named l k .frame .x + named l k .frame .w) (omega (arith, f .some-w, width-holds l p free (named l k) on-page)) in
+      let h = le-ltb (sizeOfPage l p .h) (named l k .frame .y + named l k .frame .h) (omega (arith, f .some-h, height-holds l p free (named l k) on-page)) in
+      rw (w, h)
+
+  pub free-never : (q : Request) → outOfPage q (named l k .frame) (pageOf l k) ≡ false
+  free-never AskPixels = refl
+  free-never Edges = free-inside
+  free-never (Inset i) = free-inside

@@ -4,4 +4,7 @@ pub mod Given
 pub mod Quotients
 pub mod Exactness
 pub mod NotNan
+pub mod Sides
 pub mod Numbers
+pub mod Theorems
+pub mod Table

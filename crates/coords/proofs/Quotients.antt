@@ -25,7 +25,7 @@ no-inf : (s : Bool) → T (eq (inf s) nought) → ⊥
 unfolding eq
 no-inf s t = t
 
-zero-size : (s : Bool) (m : ℕ) (d : ℤ) → T (eq (fin s m d) nought) → m * up d ≡ 0
+pub zero-size : (s : Bool) (m : ℕ) (d : ℤ) → T (eq (fin s m d) nought) → m * up d ≡ 0
 unfolding eq
 zero-size s m d t =
     let h = eqb→eq (m * up d * 1) (0 * 1 * down d) (and-l (eqb (m * up d * 1) (0 * 1 * down d)) (Bool·beq s false || eqb (m * up d * 1) 0) t) in

@@ -1,3 +1,4 @@
 pub mod Coordinates
 pub mod Bits
 pub mod Parts
+pub mod Table
