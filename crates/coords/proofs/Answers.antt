@@ -1,8 +1,8 @@
 -- What coordinates answers, from the tests and the values made. Assumes nothing.
-use Prim.Native.Nat.{ℕ, _+_, _≤_, _<_}
+use Prim.Native.Nat.{_<_}
 use native.Mathlib.Omega.{arith}
 use mathlib.Core.Path.{_≡_, refl, sym, ap, _∙_, subst}
-use mathlib.Core.Bool.{Bool, true, false, not}
+use mathlib.Core.Bool.{true, false, not}
 use mathlib.Core.List.{[], _∷_, List·Memᴰ}
 use mathlib.Core.Option.{Option, some}
 use lib.ListN.{length, getD}
@@ -22,7 +22,7 @@ use Rattle.records.proofs.Rows.{hit, skipped, none-left, at-in}
 use Rattle.records.proofs.Checks.{Good, formed}
 use Rattle.records.proofs.Keys.{named as named-by, stands-below}
 use Rattle.records.proofs.Pages.{ends-few, side-w, side-h}
-use Rattle.coords.specs.Coordinates.{nought, corners, named, pageOf, between, pastEdge, wanted, locateRow, locateRefusal, locateAnswer, located}
+use Rattle.coords.specs.Coordinates.{nought, corners, named, namedPageSize, between, pastEdge, wanted, locateRow, locateRefusal, locateAnswer, located}
 use Rattle.coords.specs.Parts.{Countable, requestRow, texelAnswer}
 use Rattle.coords.specs.declared.coords.Request.{Request}
 use Rattle.coords.specs.declared.coords.Request.the-variants.{Pixels as AskPixels, Edges, Inset}
@@ -81,8 +81,8 @@ module _ (l : Layout) (k : Key) where
     named-good = formed l e .each (named l k) (named-in t)
 
     -- its frame and its page are small
-    pub countable : Countable (named l k .frame) (pageOf l k)
-    unfolding pageOf
+    pub countable : Countable (named l k .frame) (namedPageSize l k)
+    unfolding namedPageSize
     countable =
         let ends = ends-few l (formed l e) named-good in
         record {
@@ -95,7 +95,7 @@ module _ (l : Layout) (k : Key) where
 module _ (l : Layout) (k : Key) (q : Request) where
   pub refuses : {r : Refusal} → locateRefusal l k q ≡ some r → located l k q ≡ Refused r
   unfolding located
-  refuses e = ap (locateAnswer (wanted q (named l k .frame) (pageOf l k))) e
+  refuses e = ap (locateAnswer (wanted q (named l k .frame) (namedPageSize l k))) e
 
   pub unformed : wellFormed l ≡ false → located l k q ≡ Refused NotWellFormed
   unfolding locateRefusal locateRow
@@ -107,10 +107,10 @@ module _ (l : Layout) (k : Key) (q : Request) where
       refuses
       (skipped (not (wellFormed l)) NotWellFormed _ (ap not e) ∙ hit (not (any (hasKey k) (standing l))) NoSuchKey _ (ap not t))
 
-  pub found : wellFormed l ≡ true → any (hasKey k) (standing l) ≡ true → located l k q ≡ requested q (named l k .frame) (pageOf l k)
+  pub found : wellFormed l ≡ true → any (hasKey k) (standing l) ≡ true → located l k q ≡ requested q (named l k .frame) (namedPageSize l k)
   unfolding located locateRefusal locateRow
   found e t =
-      ap (locateAnswer (wanted q (named l k .frame) (pageOf l k)))
+      ap (locateAnswer (wanted q (named l k .frame) (namedPageSize l k)))
       (skipped (not (wellFormed l)) NotWellFormed _ (ap not e) ∙ skipped (not (any (hasKey k) (standing l))) NoSuchKey _ (ap not t))
 
 -- ## the same, as the code reads them: r at the key's place, s its page's size
@@ -121,15 +121,15 @@ module _ (l : Layout) (k : Key) (e : wellFormed l ≡ true) (h : keyPlace k (sta
     frame-is : named l k .frame ≡ r .frame
     frame-is = ap (λ (n : Record). n .frame) (names l k h ∙ sym p)
 
-    page-is : pageOf l k ≡ s
-    unfolding pageOf
+    page-is : namedPageSize l k ≡ s
+    unfolding namedPageSize
     page-is = ap (λ (n : Record). sizeOfPage l (n .page)) (names l k h ∙ sym p) ∙ sym z
 
     stands : any (hasKey k) (standing l) ≡ true
     stands = named-by k (standing l) h .stands
 
     pub read-countable : Countable (r .frame) s
-    read-countable = subst (λ (t : Size). Countable (r .frame) t) page-is (subst (λ (f : Rect). Countable f (pageOf l k)) frame-is (countable l k e stands))
+    read-countable = subst (λ (t : Size). Countable (r .frame) t) page-is (subst (λ (f : Rect). Countable f (namedPageSize l k)) frame-is (countable l k e stands))
 
     pub read-found : (q : Request) {a : Located} → a ≡ requested q (r .frame) s → a ≡ located l k q
-    read-found q g = g ∙ sym (found l k q e stands ∙ ap (λ (f : Rect). requested q f (pageOf l k)) frame-is ∙ ap (requested q (r .frame)) page-is)
+    read-found q g = g ∙ sym (found l k q e stands ∙ ap (λ (f : Rect). requested q f (namedPageSize l k)) frame-is ∙ ap (requested q (r .frame)) page-is)

@@ -11,7 +11,7 @@ use lib.Ieee.Bits.{ofBits-toBits}
 use lib.Ieee.Fits.{down-pos, div-fits}
 use lib.Ieee.Exact.{HasValue, round-exact, odd-sign}
 use borrow.Author.Tests.{leb-false}
-use Rattle.coords.specs.Coordinates.{nought, num, low, high}
+use Rattle.coords.specs.Coordinates.{nought, num, lowEdge, highEdge}
 use Rattle.coords.specs.Bits.{decodedFields, decoded, Exact}
 use Rattle.coords.proofs.Quotients.{low-is, high-is}
 
@@ -76,12 +76,12 @@ bits-value y a c ok h =
 -- ## the four numbers at a side of 2 ^ k and an inset that is 0
 
 module _ (x k : ℕ) (hx : x < 16777216) (hk : k ≤ 24) (i : Float) (zero-i : T (eq i nought)) where
-  pub low-exact : Exact (low x i (2 ^ k)) x (2 ^ k)
+  pub low-exact : Exact (lowEdge x i (2 ^ k)) x (2 ^ k)
   low-exact =
-      bits-value (low x i (2 ^ k)) x (2 ^ k) (div-fits binary32 (add binary32 (num x) i) (num (2 ^ k)))
+      bits-value (lowEdge x i (2 ^ k)) x (2 ^ k) (div-fits binary32 (add binary32 (num x) i) (num (2 ^ k)))
       (subst (λ (z : Float). HasValue z false x (2 ^ k)) (sym (low-is x (2 ^ k) (le-of-lt hx) (pow-mono hk) (pow-pos k) i zero-i)) (exact x k hx hk))
 
-  pub high-exact : Exact (high x i (2 ^ k)) x (2 ^ k)
+  pub high-exact : Exact (highEdge x i (2 ^ k)) x (2 ^ k)
   high-exact =
-      bits-value (high x i (2 ^ k)) x (2 ^ k) (div-fits binary32 (sub binary32 (num x) i) (num (2 ^ k)))
+      bits-value (highEdge x i (2 ^ k)) x (2 ^ k) (div-fits binary32 (sub binary32 (num x) i) (num (2 ^ k)))
       (subst (λ (z : Float). HasValue z false x (2 ^ k)) (sym (high-is x (2 ^ k) (le-of-lt hx) (pow-mono hk) (pow-pos k) i zero-i)) (exact x k hx hk))

@@ -5,13 +5,12 @@ use native.Mathlib.Omega.{arith}
 use mathlib.Core.Path.{_≡_, refl, sym, ap, _∙_, subst}
 use mathlib.Core.Bool.{Bool, true, false, cond, _&&_, Bool·beq}
 use lib.Dec.{eqb, eqb→eq, not-T, ltb}
-use lib.Ieee.{Float, nan, inf, fin, Format, binary32, prec, emax, low as least, unlike, up, down, round, units, odd, sum, neg, add, sub, div, ofInt, lt, eq, le, isNan}
+use lib.Ieee.{Float, nan, inf, fin, Format, binary32, prec, emax, low as least, unlike, up, down, round, units, odd, sum, neg, add, sub, div, lt, eq, le, isNan}
 use lib.Ieee.Bits.{cond-no}
 use lib.Ieee.Fits.{down-pos, round-is}
 use lib.Ieee.Exact.{HasValue}
 use lib.Ieee.Scale.{finite}
-use Rattle.geometry.proofs.Words.{and-left, and-right}
-use Rattle.coords.specs.Coordinates.{nought, half, num, low, high, between}
+use Rattle.coords.specs.Coordinates.{num, lowEdge, highEdge, between}
 use Rattle.coords.proofs.Quotients.{num-value}
 
 -- ## what rounding gives
@@ -100,8 +99,8 @@ module _ (x w : ℕ) (hx : x ≤ 16777216) (hw : w ≤ 16777216) (wp : 0 < w) (i
   whole : finite (num x) ≡ true
   whole = value-finite (num x) false x 1 (num-value x hx)
 
-  pub low-number : isNan (low x i w) ≡ false
+  pub low-number : isNan (lowEdge x i w) ≡ false
   low-number = div-number binary32 (add binary32 (num x) i) (num w) w (add-number binary32 (num x) i whole ok) (num-value w hw) wp
 
-  pub high-number : isNan (high x i w) ≡ false
+  pub high-number : isNan (highEdge x i w) ≡ false
   high-number = div-number binary32 (sub binary32 (num x) i) (num w) w (sub-number binary32 (num x) i whole ok) (num-value w hw) wp

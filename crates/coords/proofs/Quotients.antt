@@ -13,7 +13,7 @@ use lib.Ieee.Fits.{down-pos, and-l, and-i, eq→eqb}
 use lib.Ieee.Exact.{HasValue}
 use lib.Ieee.Back.{round-whole}
 use lib.Ieee.Scale.{round-same}
-use Rattle.coords.specs.Coordinates.{nought, num, low, high}
+use Rattle.coords.specs.Coordinates.{nought, num, lowEdge, highEdge}
 
 -- ## a zero, of either sign
 
@@ -119,12 +119,12 @@ unfolding ofInt
 num-value n h = round-whole binary32 false n h
 
 module _ (x w : ℕ) (hx : x ≤ 16777216) (hw : w ≤ 16777216) (wp : 0 < w) (i : Float) (zero-i : T (eq i nought)) where
-  pub low-is : low x i w ≡ round binary32 false x w
+  pub low-is : lowEdge x i w ≡ round binary32 false x w
   low-is =
       ap (λ (z : Float). div binary32 z (num w)) (add-zero-of binary32 (num x) i x (num-value x hx) zero-i)
       ∙ div-whole binary32 (round binary32 false x 1) (num w) x w (round-whole binary32 false x hx) (num-value w hw) wp
 
-  pub high-is : high x i w ≡ round binary32 false x w
+  pub high-is : highEdge x i w ≡ round binary32 false x w
   high-is =
       ap (λ (z : Float). div binary32 z (num w)) (sub-zero-of binary32 (num x) i x (num-value x hx) zero-i)
       ∙ div-whole binary32 (round binary32 false x 1) (num w) x w (round-whole binary32 false x hx) (num-value w hw) wp

@@ -13,7 +13,7 @@ use borrow.Author.Tests.{leb-true, leb-false, eq-eqb, lt-ltb}
 use Rattle.geometry.specs.declared.rect.Rect.{Rect}
 use Rattle.geometry.specs.declared.rect.Size.{Size}
 use Rattle.geometry.proofs.Words.{both}
-use Rattle.coords.specs.Coordinates.{nought, low, high, corners, between}
+use Rattle.coords.specs.Coordinates.{nought, lowEdge, highEdge, corners, between}
 use Rattle.coords.specs.Bits.{Exact, PowerOfTwo, AllExact}
 use Rattle.coords.specs.Parts.{Countable}
 use Rattle.coords.specs.declared.coords.Corners.{Corners}
@@ -31,11 +31,11 @@ small-power n k h e = go (leb k 24) refl
     go false t = let more : 2 ^ 24 ≤ 2 ^ k = pow-mono (le-of-lt (leb-false k 24 t)) in absurd (omega arith)
 
 module _ (x side : ℕ) (hx : x < 16777216) (hs : side < 16777216) (i : Float) (zero-i : T (eq i nought)) where
-  low-side : PowerOfTwo side → Exact (low x i side) x side
-  low-side p = subst (λ (n : ℕ). Exact (low x i n) x n) (sym (p .1)) (low-exact x (p .0) hx (small-power side (p .0) hs (p .1)) i zero-i)
+  low-side : PowerOfTwo side → Exact (lowEdge x i side) x side
+  low-side p = subst (λ (n : ℕ). Exact (lowEdge x i n) x n) (sym (p .1)) (low-exact x (p .0) hx (small-power side (p .0) hs (p .1)) i zero-i)
 
-  high-side : PowerOfTwo side → Exact (high x i side) x side
-  high-side p = subst (λ (n : ℕ). Exact (high x i n) x n) (sym (p .1)) (high-exact x (p .0) hx (small-power side (p .0) hs (p .1)) i zero-i)
+  high-side : PowerOfTwo side → Exact (highEdge x i side) x side
+  high-side p = subst (λ (n : ℕ). Exact (highEdge x i n) x n) (sym (p .1)) (high-exact x (p .0) hx (small-power side (p .0) hs (p .1)) i zero-i)
 
 pub corners-exact : (f : Rect) (s : Size) → Countable f s → (i : Float) → T (eq i nought) → AllExact f s (corners f s i)
 unfolding corners
@@ -75,10 +75,10 @@ module _ (f : Rect) (s : Size) (n : Countable f s) (wide : 0 < s .w) (tall : 0 <
       let bottom = both-high (f .y + f .h) (s .h) (omega (arith, n .bottom)) (omega (arith, n .height)) tall in
       λ j. record { left = left j; top = top j; right = right j; bottom = bottom j }
     where
-      both-low : (x w : ℕ) → x ≤ 16777216 → w ≤ 16777216 → 0 < w → low x i w ≡ low x nought w
+      both-low : (x w : ℕ) → x ≤ 16777216 → w ≤ 16777216 → 0 < w → lowEdge x i w ≡ lowEdge x nought w
       both-low x w hx hw wp = low-is x w hx hw wp i t ∙ sym (low-is x w hx hw wp nought tt)
 
-      both-high : (x w : ℕ) → x ≤ 16777216 → w ≤ 16777216 → 0 < w → high x i w ≡ high x nought w
+      both-high : (x w : ℕ) → x ≤ 16777216 → w ≤ 16777216 → 0 < w → highEdge x i w ≡ highEdge x nought w
       both-high x w hx hw wp = high-is x w hx hw wp i t ∙ sym (high-is x w hx hw wp nought tt)
 
 or-right : (a b : Bool) → b ≡ true → (a || b) ≡ true

@@ -37,20 +37,20 @@ abbrev pub num : ℕ → Float
 num n = ofInt binary32 (pos n)
 
 -- left (x+i)/W, top (y+i)/H
-abbrev pub low : ℕ → Float → ℕ → Float
-low at i side = div binary32 (add binary32 (num at) i) (num side)
+abbrev pub lowEdge : ℕ → Float → ℕ → Float
+lowEdge at i side = div binary32 (add binary32 (num at) i) (num side)
 
 -- right ((x+w)-i)/W, bottom ((y+h)-i)/H: x+w and y+h are whole numbers
-abbrev pub high : ℕ → Float → ℕ → Float
-high at i side = div binary32 (sub binary32 (num at) i) (num side)
+abbrev pub highEdge : ℕ → Float → ℕ → Float
+highEdge at i side = div binary32 (sub binary32 (num at) i) (num side)
 
 unfoldable pub corners : Rect → Size → Float → Corners
 corners f s i =
     record {
-      left = low (f .x) i (s .w);
-      top = low (f .y) i (s .h);
-      right = high (f .x + f .w) i (s .w);
-      bottom = high (f .y + f .h) i (s .h);
+      left = lowEdge (f .x) i (s .w);
+      top = lowEdge (f .y) i (s .h);
+      right = highEdge (f .x + f .w) i (s .w);
+      bottom = highEdge (f .y + f .h) i (s .h);
     }
 
 -- ## coordinates: 2 15 17 16
@@ -60,8 +60,8 @@ unfoldable pub named : Layout → Key → Record
 named l k = orElse (recordOf l k) blankRecord
 
 -- its page's size
-unfoldable pub pageOf : Layout → Key → Size
-pageOf l k = sizeOfPage l (named l k .page)
+unfoldable pub namedPageSize : Layout → Key → Size
+namedPageSize l k = sizeOfPage l (named l k .page)
 
 -- between 0 and 0.5: either end is, a NaN is not
 unfoldable pub between : Float → Bool
@@ -87,7 +87,7 @@ locateRow l k q =
     (not (wellFormed l), NotWellFormed)
     ∷ (not (any (hasKey k) (standing l)), NoSuchKey)
     ∷ (badInset q, BadInset)
-    ∷ (outOfPage q (named l k .frame) (pageOf l k), PastPage)
+    ∷ (outOfPage q (named l k .frame) (namedPageSize l k), PastPage)
     ∷ []
 
 unfoldable pub locateRefusal : Layout → Key → Request → Option Refusal
@@ -104,7 +104,7 @@ locateAnswer a none = a
 locateAnswer a (some r) = Refused r
 
 unfoldable pub located : Layout → Key → Request → Located
-located l k q = locateAnswer (wanted q (named l k .frame) (pageOf l k)) (locateRefusal l k q)
+located l k q = locateAnswer (wanted q (named l k .frame) (namedPageSize l k)) (locateRefusal l k q)
 
 -- the four numbers by their bits
 abbrev pub locatedNumbers : Located → List ℕ

@@ -1,9 +1,8 @@
 // Coordinates of a standing image: in pixels, at texel edges, or inset by a stated distance. Added by design, not the crate's.
 ghost use mathlib.Core.Path.{_≡_};
-ghost use mathlib.Core.Bool.{not};
 ghost use Prim.Native.Nat.{_<_};
 ghost use Rattle.records.specs.Refusals.{firstOf};
-ghost use Rattle.coords.specs.Coordinates.{low, high, corners, between, pastEdge, wanted, locateAnswer, located, locatedNumbers};
+ghost use Rattle.coords.specs.Coordinates.{lowEdge, highEdge, corners, between, pastEdge, wanted, locateAnswer, located, locatedNumbers};
 ghost use Rattle.coords.specs.Parts.{Countable, requestRow, texelAnswer};
 use geometry::rect::Rect;
 use geometry::rect::Size;
@@ -34,7 +33,7 @@ pub enum Located {
 // Left or top: (at + i) / side, each operation rounded once.
 fn low_edge(at: u32, i: f32, side: u32) -> f32
     requires { ⌜ (at < 16777216) × (side < 16777216) ⌝ }
-    ensures { λ r. ⌜ r ≡ low at i side ⌝ }
+    ensures { λ r. ⌜ r ≡ lowEdge at i side ⌝ }
 {
     (at as f32 + i) / side as f32
 }
@@ -42,7 +41,7 @@ fn low_edge(at: u32, i: f32, side: u32) -> f32
 // Right or bottom: (at - i) / side, each operation rounded once.
 fn high_edge(at: u32, i: f32, side: u32) -> f32
     requires { ⌜ (at < 16777216) × (side < 16777216) ⌝ }
-    ensures { λ r. ⌜ r ≡ high at i side ⌝ }
+    ensures { λ r. ⌜ r ≡ highEdge at i side ⌝ }
 {
     (at as f32 - i) / side as f32
 }
