@@ -23,11 +23,11 @@ use Rattle.records.proofs.Checks.{Good, formed}
 use Rattle.records.proofs.Keys.{named as named-by, stands-below}
 use Rattle.records.proofs.Pages.{ends-few, side-w, side-h}
 use Rattle.coords.specs.Coordinates.{nought, corners, named, namedPageSize, between, pastEdge, wanted, locateRow, locateRefusal, locateAnswer, located}
-use Rattle.coords.specs.Parts.{Countable, requestRow, texelAnswer}
-use Rattle.coords.specs.declared.coords.Request.{Request}
-use Rattle.coords.specs.declared.coords.Request.the-variants.{Pixels as AskPixels, Edges, Inset}
-use Rattle.coords.specs.declared.coords.Located.{Located}
-use Rattle.coords.specs.declared.coords.Located.the-variants.{Pixels, Texels, Refused}
+use Rattle.coords.specs.Parts.{Countable, texelAnswer, requested}
+use Rattle.coords.specs.declared.locate.Request.{Request}
+use Rattle.coords.specs.declared.locate.Request.the-variants.{Pixels as AskPixels, Edges, Inset}
+use Rattle.coords.specs.declared.locate.Located.{Located}
+use Rattle.coords.specs.declared.locate.Located.the-variants.{Pixels, Texels, Refused}
 
 -- ## past 17
 
@@ -39,10 +39,6 @@ module _ (f : Rect) (s : Size) (i : Float) where
   texels-in e = ap (locateAnswer (Texels (corners f s i))) (skipped (pastEdge f s) PastPage [] e ∙ none-left)
 
 -- ## past 2 and 15
-
--- the row from 17 on, and the answer
-abbrev pub requested : Request → Rect → Size → Located
-requested q f s = locateAnswer (wanted q f s) (firstOf (requestRow q f s))
 
 module _ (f : Rect) (s : Size) where
   pub ask-pixels : requested AskPixels f s ≡ Pixels f

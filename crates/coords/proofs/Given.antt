@@ -22,11 +22,11 @@ use Rattle.records.proofs.Rows.{passed}
 use Rattle.records.proofs.Checks.{framed}
 use Rattle.records.proofs.Layouts.{width-holds, height-holds}
 use Rattle.coords.specs.Coordinates.{named, namedPageSize, badInset, pastEdge, outOfPage, wanted, locateRow, locateRefusal, locateAnswer, located}
-use Rattle.coords.specs.declared.coords.Corners.{Corners}
-use Rattle.coords.specs.declared.coords.Request.{Request}
-use Rattle.coords.specs.declared.coords.Request.the-variants.{Pixels as AskPixels, Edges, Inset}
-use Rattle.coords.specs.declared.coords.Located.{Located}
-use Rattle.coords.specs.declared.coords.Located.the-variants.{Pixels, Texels, Refused}
+use Rattle.coords.specs.declared.locate.Corners.{Corners}
+use Rattle.coords.specs.declared.locate.Request.{Request}
+use Rattle.coords.specs.declared.locate.Request.the-variants.{Pixels as AskPixels, Edges, Inset}
+use Rattle.coords.specs.declared.locate.Located.{Located}
+use Rattle.coords.specs.declared.locate.Located.the-variants.{Pixels, Texels, Refused}
 use Rattle.coords.proofs.Answers.{named-in, named-good}
 
 -- ## which case

@@ -16,7 +16,7 @@ use Rattle.geometry.proofs.Words.{both}
 use Rattle.coords.specs.Coordinates.{nought, lowEdge, highEdge, corners, between}
 use Rattle.coords.specs.Bits.{Exact, PowerOfTwo, AllExact}
 use Rattle.coords.specs.Parts.{Countable}
-use Rattle.coords.specs.declared.coords.Corners.{Corners}
+use Rattle.coords.specs.declared.locate.Corners.{Corners}
 use Rattle.coords.proofs.Quotients.{zero-size, low-is, high-is}
 use Rattle.coords.proofs.Exactness.{low-exact, high-exact}
 use Rattle.coords.proofs.NotNan.{low-number, high-number}

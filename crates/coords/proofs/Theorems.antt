@@ -21,11 +21,11 @@ use Rattle.records.proofs.Rows.{First, is-first, exactly}
 use Rattle.coords.specs.Coordinates.{nought, corners, named, namedPageSize, between, badInset, pastEdge, outOfPage, wanted, locateRow, locateRefusal, located, locatedNumbers}
 use Rattle.coords.specs.Bits.{AllExact, insetNought}
 use Rattle.coords.specs.Parts.{Countable}
-use Rattle.coords.specs.declared.coords.Corners.{Corners}
-use Rattle.coords.specs.declared.coords.Request.{Request}
-use Rattle.coords.specs.declared.coords.Request.the-variants.{Pixels as AskPixels, Edges, Inset}
-use Rattle.coords.specs.declared.coords.Located.{Located}
-use Rattle.coords.specs.declared.coords.Located.the-variants.{Pixels, Texels, Refused}
+use Rattle.coords.specs.declared.locate.Corners.{Corners}
+use Rattle.coords.specs.declared.locate.Request.{Request}
+use Rattle.coords.specs.declared.locate.Request.the-variants.{Pixels as AskPixels, Edges, Inset}
+use Rattle.coords.specs.declared.locate.Located.{Located}
+use Rattle.coords.specs.declared.locate.Located.the-variants.{Pixels, Texels, Refused}
 use Rattle.coords.proofs.Answers.{ask-pixels, ask-edges, ask-inset, texels-in, countable, refuses, found}
 use Rattle.coords.proofs.Given.{refusal-of, texels-of, Passed, passed-row, sides, free-never}
 use Rattle.coords.proofs.Sides.{corners-exact, AreNumbers, corners-numbers, zero-corners, zero-between}

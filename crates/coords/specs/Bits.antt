@@ -7,9 +7,9 @@ use lib.Ieee.{Float, binary32, toBits, eq}
 use Rattle.geometry.specs.declared.rect.Rect.{Rect}
 use Rattle.geometry.specs.declared.rect.Size.{Size}
 use Rattle.coords.specs.Coordinates.{nought}
-use Rattle.coords.specs.declared.coords.Corners.{Corners}
-use Rattle.coords.specs.declared.coords.Request.{Request}
-use Rattle.coords.specs.declared.coords.Request.the-variants.{Pixels as AskPixels, Edges, Inset}
+use Rattle.coords.specs.declared.locate.Corners.{Corners}
+use Rattle.coords.specs.declared.locate.Request.{Request}
+use Rattle.coords.specs.declared.locate.Request.the-variants.{Pixels as AskPixels, Edges, Inset}
 
 -- The whole number that the bits of an f32 stand for, in units of 2 ^ -149, its sign aside. Below the sign stand 8 digits of exponent and 23 more: where the
 -- exponent is 0 those 23 alone, else those 23 below a leading one, moved up by one place less than the exponent says.

@@ -18,11 +18,11 @@ use Rattle.records.specs.declared.frame.Record.{Record}
 use Rattle.records.specs.declared.layout.Layout.{Layout}
 use Rattle.records.specs.declared.refusal.Refusal.{Refusal}
 use Rattle.records.specs.declared.refusal.Refusal.the-variants.{NotWellFormed, NoSuchKey, BadInset, PastPage}
-use Rattle.coords.specs.declared.coords.Corners.{Corners}
-use Rattle.coords.specs.declared.coords.Request.{Request}
-use Rattle.coords.specs.declared.coords.Request.the-variants.{Pixels as AskPixels, Edges, Inset}
-use Rattle.coords.specs.declared.coords.Located.{Located}
-use Rattle.coords.specs.declared.coords.Located.the-variants.{Pixels, Texels, Refused}
+use Rattle.coords.specs.declared.locate.Corners.{Corners}
+use Rattle.coords.specs.declared.locate.Request.{Request}
+use Rattle.coords.specs.declared.locate.Request.the-variants.{Pixels as AskPixels, Edges, Inset}
+use Rattle.coords.specs.declared.locate.Located.{Located}
+use Rattle.coords.specs.declared.locate.Located.the-variants.{Pixels, Texels, Refused}
 
 -- ## four f32 numbers, each operation rounded once
 

@@ -12,8 +12,8 @@ use Rattle.records.specs.Samples.{settings, rect, source, made, laid}
 use Rattle.records.specs.declared.frame.Record.{Record}
 use Rattle.records.specs.declared.layout.Layout.{Layout}
 use Rattle.coords.specs.Coordinates.{located, locatedNumbers}
-use Rattle.coords.specs.declared.coords.Request.{Request}
-use Rattle.coords.specs.declared.coords.Request.the-variants.{Pixels, Edges, Inset}
+use Rattle.coords.specs.declared.locate.Request.{Request}
+use Rattle.coords.specs.declared.locate.Request.the-variants.{Pixels, Edges, Inset}
 
 -- what is computed, and what it must be
 abbrev pub Line : Type 0

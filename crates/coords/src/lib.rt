@@ -1,2 +1,2 @@
 // Texture coordinates of a standing image.
-pub mod coords;
+pub mod locate;

@@ -2,8 +2,8 @@
 use mathlib.Core.Path.{refl}
 use lib.Ieee.{ofBits}
 use Rattle.coords.specs.Coordinates.{between}
-use Rattle.coords.proofs.coords.is_between.Statement.{statement}
-use Rattle.coords.proofs.coords.is_between.Tie as tie
+use Rattle.coords.proofs.locate.is_between.Statement.{statement}
+use Rattle.coords.proofs.locate.is_between.Tie as tie
 
 returns : tie.Need-returns
 unfolding between ofBits

@@ -14,8 +14,8 @@ use Rattle.records.proofs.Keys.{unnamed}
 use Rattle.records.proofs.Standing.{standing-long, standing-at}
 use Rattle.coords.specs.Coordinates.{locatedNumbers}
 use Rattle.coords.proofs.Answers.{placed, unformed, keyless, read-countable, read-found}
-use Rattle.coords.proofs.coords.coordinates.Statement.{statement}
-use Rattle.coords.proofs.coords.coordinates.Tie as tie
+use Rattle.coords.proofs.locate.coordinates.Statement.{statement}
+use Rattle.coords.proofs.locate.coordinates.Tie as tie
 
 long : (c : tie.Start) → length (c .args .t1 .records) ≡ 256
 long c = simp length-map at (c .good .0 .1 .1 .1 .1 .0 .1 .0 .1)
@@ -62,15 +62,15 @@ element-copy-out-r c = let f = formed _ (well (c .before .before)) .few in omega
 size-of-page-requires : tie.Need-size-of-page-requires
 size-of-page-requires c κs = well (c .before .before .before)
 
-locate-requires : tie.Need-locate-requires
+answer-request-requires : tie.Need-answer-request-requires
 unfolding blankRecord
-locate-requires c κs = let at = c .before .before in read-countable _ _ (well (at .before .before)) (below at) _ _ (here at) (c .size-of-page .ensures)
+answer-request-requires c κs = let at = c .before .before in read-countable _ _ (well (at .before .before)) (below at) _ _ (here at) (c .size-of-page .ensures)
 
 returns-3 : tie.Need-returns-3
 unfolding blankRecord
 returns-3 c =
     let at = c .before .before .before in
-    says locatedNumbers (read-found _ _ (well (at .before .before)) (below at) _ _ (here at) (c .before .size-of-page .ensures) _ (c .locate .ensures))
+    says locatedNumbers (read-found _ _ (well (at .before .before)) (below at) _ _ (here at) (c .before .size-of-page .ensures) _ (c .answer-request .ensures))
 
 pub coordinates-spec : {M : Type 1} → statement M
 coordinates-spec =
@@ -83,5 +83,5 @@ coordinates-spec =
     mul-r
     element-copy-out-r
     size-of-page-requires
-    locate-requires
+    answer-request-requires
     returns-3)

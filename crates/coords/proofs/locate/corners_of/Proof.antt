@@ -1,8 +1,8 @@
 -- `corners_of` makes the four numbers, each by its own axis. Assumes nothing.
 use borrow.Author.Needs.{needs}
 use Rattle.coords.specs.Coordinates.{corners}
-use Rattle.coords.proofs.coords.corners_of.Statement.{statement}
-use Rattle.coords.proofs.coords.corners_of.Tie as tie
+use Rattle.coords.proofs.locate.corners_of.Statement.{statement}
+use Rattle.coords.proofs.locate.corners_of.Tie as tie
 
 low-edge-requires : tie.Need-low-edge-requires
 low-edge-requires c κs = search needs

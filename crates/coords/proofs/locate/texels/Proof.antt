@@ -1,10 +1,10 @@
 -- `texels` asks 16, then makes the corners. Assumes nothing.
 use mathlib.Core.Path.{sym, ap, _∙_}
 use borrow.Author.Needs.{needs}
-use Rattle.coords.specs.declared.coords.Located.the-variants.{Texels}
+use Rattle.coords.specs.declared.locate.Located.the-variants.{Texels}
 use Rattle.coords.proofs.Answers.{texels-past, texels-in}
-use Rattle.coords.proofs.coords.texels.Statement.{statement}
-use Rattle.coords.proofs.coords.texels.Tie as tie
+use Rattle.coords.proofs.locate.texels.Statement.{statement}
+use Rattle.coords.proofs.locate.texels.Tie as tie
 
 past-edge-requires : tie.Need-past-edge-requires
 past-edge-requires c κs = search needs

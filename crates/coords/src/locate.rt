@@ -1,9 +1,8 @@
 // Coordinates of a standing image: in pixels, at texel edges, or inset by a stated distance. Added by design, not the crate's.
 ghost use mathlib.Core.Path.{_≡_};
 ghost use Prim.Native.Nat.{_<_};
-ghost use Rattle.records.specs.Refusals.{firstOf};
-ghost use Rattle.coords.specs.Coordinates.{lowEdge, highEdge, corners, between, pastEdge, wanted, locateAnswer, located, locatedNumbers};
-ghost use Rattle.coords.specs.Parts.{Countable, requestRow, texelAnswer};
+ghost use Rattle.coords.specs.Coordinates.{lowEdge, highEdge, corners, between, pastEdge, located, locatedNumbers};
+ghost use Rattle.coords.specs.Parts.{Countable, texelAnswer, requested};
 use geometry::rect::Rect;
 use geometry::rect::Size;
 use records::frame::Key;
@@ -88,9 +87,9 @@ fn texels(f: Rect, s: Size, i: f32) -> Located
 }
 
 // 17, then 16, then the answer, for the frame and its page's size.
-fn locate(q: Request, f: Rect, s: Size) -> Located
+fn answer_request(q: Request, f: Rect, s: Size) -> Located
     requires { ⌜ Countable f s ⌝ }
-    ensures { λ r. ⌜ r ≡ locateAnswer (wanted q f s) (firstOf (requestRow q f s)) ⌝ }
+    ensures { λ r. ⌜ r ≡ requested q f s ⌝ }
 {
     match q {
         Request::Pixels => Located::Pixels(f),
@@ -118,5 +117,5 @@ pub fn coordinates(l: Layout, key: Key, request: Request) -> Located
     }
     let r = l.records[at];
     let s = layout::size_of_page(l, r.page);
-    locate(request, r.frame, s)
+    answer_request(request, r.frame, s)
 }

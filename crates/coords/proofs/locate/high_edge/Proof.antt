@@ -1,8 +1,8 @@
 -- `high_edge`: each cast is of a whole number below 2 ^ 24. Assumes nothing.
 use borrow.Author.Needs.{needs}
 use Rattle.coords.proofs.Casts.{in-float}
-use Rattle.coords.proofs.coords.high_edge.Statement.{statement}
-use Rattle.coords.proofs.coords.high_edge.Tie as tie
+use Rattle.coords.proofs.locate.high_edge.Statement.{statement}
+use Rattle.coords.proofs.locate.high_edge.Tie as tie
 
 int-to-float-result : tie.Need-int-to-float-result
 int-to-float-result c = in-float _ (c .before .pre .0)

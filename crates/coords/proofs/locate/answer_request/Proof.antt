@@ -1,12 +1,13 @@
--- `locate` asks 17 of an inset, then 16 of edges and insets. Assumes nothing.
+-- `answer_request` asks 17 of an inset, then 16 of edges and insets. Assumes nothing.
 use mathlib.Core.Path.{sym, ap, _∙_}
 use lib.Ieee.{ofBits}
 use borrow.Author.Tests.{not-true, not-false}
 use borrow.Author.Needs.{needs}
-use Rattle.coords.specs.declared.coords.Request.{Request}
-use Rattle.coords.proofs.Answers.{requested, ask-pixels, ask-edges, ask-inset, ask-not-between}
-use Rattle.coords.proofs.coords.locate.Statement.{statement}
-use Rattle.coords.proofs.coords.locate.Tie as tie
+use Rattle.coords.specs.Parts.{requested}
+use Rattle.coords.specs.declared.locate.Request.{Request}
+use Rattle.coords.proofs.Answers.{ask-pixels, ask-edges, ask-inset, ask-not-between}
+use Rattle.coords.proofs.locate.answer_request.Statement.{statement}
+use Rattle.coords.proofs.locate.answer_request.Tie as tie
 
 enum-told : tie.Need-enum-told
 enum-told c = search needs
@@ -48,8 +49,8 @@ returns-4 c =
     let a = g .before .before .args in
     c .texels2 .ensures ∙ sym (ap (λ (q : Request). requested q (a .f) (a .s)) (g .q .given .1) ∙ ask-inset (a .f) (a .s) _ (sym (b .is-between .ensures) ∙ not-false _ (c .before .if1 .left)))
 
-pub locate-spec : {M : Type 1} → statement M
-locate-spec =
+pub answer-request-spec : {M : Type 1} → statement M
+answer-request-spec =
     tie.close
     (tie.spec
     enum-told

@@ -2,8 +2,8 @@
 use mathlib.Core.Path.{refl}
 use borrow.Author.Needs.{needs}
 use Rattle.coords.specs.Coordinates.{pastEdge}
-use Rattle.coords.proofs.coords.past_edge.Statement.{statement}
-use Rattle.coords.proofs.coords.past_edge.Tie as tie
+use Rattle.coords.proofs.locate.past_edge.Statement.{statement}
+use Rattle.coords.proofs.locate.past_edge.Tie as tie
 
 add-result : tie.Need-add-result
 add-result c = search needs
