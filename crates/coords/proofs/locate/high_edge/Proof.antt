@@ -1,5 +1,5 @@
 -- `high_edge`: each cast is of a whole number below 2 ^ 24. Assumes nothing.
-use borrow.Author.Needs.{needs}
+use mathlib.Core.Path.{refl}
 use Rattle.coords.proofs.Casts.{in-float}
 use Rattle.coords.proofs.locate.high_edge.Statement.{statement}
 use Rattle.coords.proofs.locate.high_edge.Tie as tie
@@ -11,7 +11,7 @@ int-to-float-result-2 : tie.Need-int-to-float-result-2
 int-to-float-result-2 c = in-float _ (c .before .before .pre .1)
 
 returns : tie.Need-returns
-returns c = search needs
+returns c = refl
 
 pub high-edge-spec : {M : Type 1} → statement M
 high-edge-spec = tie.close (tie.spec int-to-float-result int-to-float-result-2 returns)
