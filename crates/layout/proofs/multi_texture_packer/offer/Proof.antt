@@ -4,8 +4,9 @@ use Rattle.rules.specs.declared.multi_texture_packer.Offering.{Offering}
 use mathlib.Core.List.{List}
 use Prim.Native.Nat.{ℕ}
 use mathlib.Core.Path.{_≡_}
-use Rattle.layout.specs.declared.trust.Trust.the-variants.{Unformed, Unfaithful, StandsOn}
-use Rattle.layout.proofs.Answering.{Formed2, unformed, not-faithful, stands-on, offer-unformed, offer-unfaithful, offer-rest}
+use Rattle.replay.specs.declared.trust.Trust.the-variants.{Unformed, Unfaithful, StandsOn}
+use Rattle.replay.proofs.Trusting.{Formed2, unformed, not-faithful, stands-on}
+use Rattle.layout.proofs.Answering.{offer-unformed, offer-unfaithful, offer-rest}
 use borrow.Author.Needs.{needs}
 use Rattle.layout.proofs.multi_texture_packer.offer.Statement.{statement}
 use Rattle.layout.proofs.multi_texture_packer.offer.Tie as tie

@@ -1,0 +1,3 @@
+pub mod Placings
+pub mod Keeping
+pub mod Rows

@@ -1,0 +1,4 @@
+pub mod Replays
+pub mod Spots
+pub mod Sofar
+pub mod Trusting
