@@ -18,13 +18,7 @@ pub enum Read {
 }
 
 // row of an image: 2 15 13 5. Whether it is handed back, or the number of its refusal.
-pub fn row_refusal<'a>(
-    l: Layout,
-    symbols: &'a [u8],
-    wording: &'a [u8],
-    key: Key,
-    row: u32,
-) -> Read
+pub fn row_refusal<'a>(l: Layout, symbols: &'a [u8], wording: &'a [u8], key: Key, row: u32) -> Read
     ensures { λ r. ⌜ r ≡ read l (lent (now (symbols .entry)) (now (wording .entry))) key row ⌝ }
     ensures { λ r. ⌜ readNumbers r ≡ readNumbers (read l (lent (now (symbols .entry)) (now (wording .entry))) key row) ⌝ }
 {
