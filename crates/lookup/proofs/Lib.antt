@@ -1,2 +1,4 @@
 pub mod Zones
+pub mod Owners
 pub mod Looking
+pub mod Answers

@@ -1,4 +1,4 @@
--- 5 of pixel: which images on a page have been asked; and the row of checks. Assumes nothing.
+-- 5: whether any image on a page runs past its store, over what is left of a list; and that each lies in it where none does. Assumes nothing.
 use Prim.Native.Nat.{ℕ, _+_, _≤_, _<_}
 use native.Mathlib.Omega.{arith}
 use mathlib.Core.Path.{_≡_, refl, sym, ap, _∙_}

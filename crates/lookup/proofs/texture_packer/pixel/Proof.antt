@@ -1,44 +1,53 @@
+-- `pixel` asks 2, 11, 5, then looks. Assumes nothing.
+use Prim.Native.Nat.{_<_}
+use native.Mathlib.Omega.{arith}
+use mathlib.Core.Bool.{true, false}
+use mathlib.Core.Path.{_≡_, sym, _∙_}
+use borrow.Author.Tests.{not-true, not-false}
 use borrow.Author.Needs.{needs}
+use Rattle.art.specs.Stores.{lent}
+use Rattle.records.specs.Layouts.{standing, wellFormed, pageCount}
+use Rattle.records.proofs.Answers.{says}
+use Rattle.lookup.specs.Looking.{pagePast, lookedNumbers}
+use Rattle.lookup.proofs.Answers.{look-unformed, look-no-page, look-past, look-passes, looked-refused, looked-found}
 use Rattle.lookup.proofs.texture_packer.pixel.Statement.{statement}
 use Rattle.lookup.proofs.texture_packer.pixel.Tie as tie
-use Rattle.lookup.proofs.texture_packer.pixel.Reads as reads
-use Rattle.lookup.proofs.texture_packer.pixel.Lts as lts
-use Rattle.lookup.proofs.texture_packer.page_past.Reads as page-past-reads
-use Rattle.lookup.proofs.texture_packer.pixel_at.Reads as pixel-at-reads
-use Rattle.records.proofs.layout.page_count.Reads as page-count-reads
-use Rattle.records.proofs.layout.well_formed.Reads as well-formed-reads
 
--- src/texture_packer.rt:180:9
+-- what each passed test says
+formed : (c : tie.Else1) → wellFormed (c .before .before .before .before .args .l) ≡ true
+formed c = sym (c .before .well-formed .ensures) ∙ not-false _ (c .if1 .left)
+
+below : (c : tie.Else2) → let a = c .before .before .before .before .before .before .before .args in a .page .0 < pageCount (standing (a .l))
+below c = omega (arith, c .if2 .left, c .before .before .page-count .ensures)
+
 well-formed-requires : tie.Need-well-formed-requires
 well-formed-requires c κs = search needs
 
--- src/texture_packer.rt:181:9
 returns : tie.Need-returns
-returns c = ?
+returns c = says lookedNumbers (looked-refused _ _ _ _ _ (look-unformed _ _ _ (sym (c .before .well-formed .ensures) ∙ not-true _ (c .if1 .taken))))
 
--- src/texture_packer.rt:183:8
 page-count-requires : tie.Need-page-count-requires
-page-count-requires c κs = ?
+page-count-requires c κs = formed c
 
--- src/texture_packer.rt:184:9
 returns-2 : tie.Need-returns-2
-returns-2 c = ?
+returns-2 c = says lookedNumbers (looked-refused _ _ _ _ _ (look-no-page _ _ _ (formed (c .before .before .before)) (omega (arith, c .if2 .taken, c .before .before .page-count .ensures))))
 
--- src/texture_packer.rt:186:8
 page-past-requires : tie.Need-page-past-requires
-page-past-requires c κs = ?
+page-past-requires c κs = formed (c .before .before .before)
 
--- src/texture_packer.rt:187:9
 returns-3 : tie.Need-returns-3
-returns-3 c = ?
+returns-3 c =
+    let f = formed (c .before .before .before .before .before) in
+    says lookedNumbers (looked-refused _ _ _ _ _ (look-past _ _ _ f (below (c .before .before)) (sym (c .before .page-past .ensures) ∙ c .if3 .taken)))
 
--- src/texture_packer.rt:189:5
 pixel-at-requires : tie.Need-pixel-at-requires
-pixel-at-requires c κs = ?
+pixel-at-requires c κs = (formed (c .before .before .before .before .before), sym (c .before .page-past .ensures) ∙ c .if3 .left)
 
--- src/texture_packer.rt:169:1
 returns-4 : tie.Need-returns-4
-returns-4 c = ?
+returns-4 c =
+    let f = formed (c .before .before .before .before .before .before) in
+    says lookedNumbers
+    (c .pixel-at .ensures ∙ looked-found _ _ _ _ _ (look-passes _ _ _ f (below (c .before .before .before)) (sym (c .before .before .page-past .ensures) ∙ c .before .if3 .left)))
 
 pub pixel-spec : {M : Type 1} → statement M
 pixel-spec =
