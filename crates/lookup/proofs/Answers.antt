@@ -1,24 +1,35 @@
--- What pixel answers, from its tests and from the pixel found. Assumes nothing.
+-- What pixel and the sister of row of an image answer, from their tests and from the pixel found. Assumes nothing.
 use Prim.Native.Nat.{ℕ, _≤_, _<_}
+use native.Mathlib.Omega.{arith}
 use mathlib.Core.Path.{_≡_, refl, sym, ap, _∙_}
 use mathlib.Core.Bool.{Bool, true, false, not}
 use mathlib.Core.List.{[], _∷_}
 use mathlib.Core.Option.{Option, none, some}
-use borrow.Author.Tests.{le-leb, lt-leb}
-use Rattle.art.specs.Stores.{Stores}
+use lib.Dec.{leb}
+use borrow.Author.Tests.{le-leb, lt-leb, leb-false, not-false}
+use Rattle.geometry.specs.Words.{any}
+use Rattle.art.specs.Stores.{Stores, runsPast}
 use Rattle.art.specs.declared.memory_rgba8_texture.Pixel.{Pixel}
-use Rattle.records.specs.Layouts.{standing, wellFormed, pageCount}
+use Rattle.records.specs.Records.{imageOf}
+use Rattle.records.specs.Layouts.{standing, wellFormed, pageCount, hasKey, recordNamed}
 use Rattle.records.specs.Operations.{noSuchPage}
 use Rattle.records.specs.Refusals.{firstOf}
+use Rattle.records.specs.declared.frame.Key.{Key}
 use Rattle.records.specs.declared.frame.Page.{Page}
+use Rattle.records.specs.declared.frame.Record.{Record}
 use Rattle.records.specs.declared.layout.Layout.{Layout}
 use Rattle.records.specs.declared.refusal.Refusal.{Refusal}
-use Rattle.records.specs.declared.refusal.Refusal.the-variants.{NotWellFormed, NoSuchPage, PastStore}
+use Rattle.records.specs.declared.refusal.Refusal.the-variants.{NotWellFormed, NoSuchPage, NoSuchKey, BadRows, PastStore}
 use Rattle.records.proofs.Rows.{hit, skipped, none-left}
+use Rattle.rules.proofs.Rows.{none-holds}
 use Rattle.lookup.specs.Zones.{pixelAt}
 use Rattle.lookup.specs.Looking.{pagePast, lookRefusal, lookAnswer, looked}
+use Rattle.lookup.specs.Reading.{readRow, readRefusal, readAnswer, read}
+use Rattle.lookup.specs.declared.image_row.Read.the-variants.{Done, Refused as RowRefused}
 use Rattle.lookup.specs.declared.texture_packer.Looked.{Looked}
 use Rattle.lookup.specs.declared.texture_packer.Looked.the-variants.{Refused}
+
+-- ## pixel
 
 module _ (l : Layout) (s : Stores) (p : Page) where
   pub look-unformed : wellFormed l ≡ false → lookRefusal l s p ≡ some NotWellFormed
@@ -55,3 +66,70 @@ module _ (l : Layout) (s : Stores) (p : Page) where
     pub looked-found : lookRefusal l s p ≡ none → lookAnswer (pixelAt l s p x y) none ≡ looked l s p x y
     unfolding looked
     looked-found e = sym (ap (lookAnswer (pixelAt l s p x y)) e)
+
+-- ## row of an image
+
+module _ (l : Layout) (s : Stores) (k : Key) (y : ℕ) where
+  pub read-unformed : wellFormed l ≡ false → readRefusal l s k y ≡ some NotWellFormed
+  unfolding readRefusal
+  read-unformed e = hit (not (wellFormed l)) NotWellFormed _ (ap not e)
+
+  pub read-no-key : wellFormed l ≡ true → any (hasKey k) (standing l) ≡ false → readRefusal l s k y ≡ some NoSuchKey
+  unfolding readRefusal
+  read-no-key e n = skipped (not (wellFormed l)) NotWellFormed _ (ap not e) ∙ hit _ NoSuchKey _ (ap not n)
+
+  -- 2 and 15 are passed, and r is the record named: 13 and 5 are asked of it
+  module _ (formed : wellFormed l ≡ true) (stands : any (hasKey k) (standing l) ≡ true) (r : Record) (is : recordNamed l k ≡ r) where
+    passed-two : readRefusal l s k y ≡ firstOf ((leb (r .source .h) y, BadRows) ∷ (runsPast s (imageOf r), PastStore) ∷ [])
+    unfolding readRefusal
+    passed-two =
+        skipped (not (wellFormed l)) NotWellFormed _ (ap not formed)
+        ∙ skipped _ NoSuchKey _ (ap not stands)
+        ∙ ap (λ (q : Record). firstOf ((leb (q .source .h) y, BadRows) ∷ (runsPast s (imageOf q), PastStore) ∷ [])) is
+
+    pub read-no-row : r .source .h ≤ y → readRefusal l s k y ≡ some BadRows
+    read-no-row h = passed-two ∙ hit _ BadRows _ (le-leb (r .source .h) y h)
+
+    pub read-past : y < r .source .h → runsPast s (imageOf r) ≡ true → readRefusal l s k y ≡ some PastStore
+    read-past h e = passed-two ∙ skipped _ BadRows _ (lt-leb (r .source .h) y h) ∙ hit _ PastStore [] e
+
+    pub read-passes : y < r .source .h → runsPast s (imageOf r) ≡ false → readRefusal l s k y ≡ none
+    read-passes h e = passed-two ∙ skipped _ BadRows _ (lt-leb (r .source .h) y h) ∙ skipped _ PastStore [] e ∙ none-left
+
+  pub read-refused : {r : Refusal} → readRefusal l s k y ≡ some r → RowRefused r ≡ read l s k y
+  unfolding read
+  read-refused e = sym (ap readAnswer e)
+
+  pub read-done : readRefusal l s k y ≡ none → Done ≡ read l s k y
+  unfolding read
+  read-done e = sym (ap readAnswer e)
+
+  -- and back: what the answer says of the row
+  pub refused-read : (r : Refusal) → read l s k y ≡ RowRefused r → readRefusal l s k y ≡ some r
+  unfolding read
+  refused-read r e = go (readRefusal l s k y) e
+    where
+      go : (o : Option Refusal) → readAnswer o ≡ RowRefused r → o ≡ some r
+      go none q = let z : _≡_ {A = ℕ} 0 1 = cc in absurd (omega arith)
+      go (some n) q = let z : n ≡ r = cc in ap some z
+
+  pub done-read : read l s k y ≡ Done → readRefusal l s k y ≡ none
+  unfolding read
+  done-read e = go (readRefusal l s k y) e
+    where
+      go : (o : Option Refusal) → readAnswer o ≡ Done → o ≡ none
+      go none q = refl
+      go (some n) q = let z : _≡_ {A = ℕ} 0 1 = cc in absurd (omega arith)
+
+  -- no check holds
+  pub record Readable : Type 0 where
+    pub formed : wellFormed l ≡ true
+    pub stands : any (hasKey k) (standing l) ≡ true
+    pub below : y < recordNamed l k .source .h
+    pub inside : runsPast s (imageOf (recordNamed l k)) ≡ false
+
+  pub readable : readRefusal l s k y ≡ none → Readable
+  unfolding readRefusal
+  readable e =
+      let h = none-holds (readRow l s k y) e in
+      record { formed = not-false _ (h .0); stands = not-false _ (h .1 .0); below = leb-false _ _ (h .1 .1 .0); inside = h .1 .1 .1 .0 }

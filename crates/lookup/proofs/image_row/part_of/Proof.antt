@@ -1,48 +1,38 @@
+-- `part_of` slices the store of the case: the part points into that store's own memory. Assumes nothing.
+use mathlib.Core.Path.{refl}
 use borrow.Author.Needs.{needs}
 use Rattle.lookup.proofs.image_row.part_of.Statement.{statement}
 use Rattle.lookup.proofs.image_row.part_of.Tie as tie
-use Rattle.lookup.proofs.image_row.part_of.Reads as reads
-use Rattle.lookup.proofs.image_row.part_of.Lts as lts
 
--- src/image_row.rt:54:27
 enum-told : tie.Need-enum-told
 enum-told c = search needs
 
--- src/image_row.rt:54:27
 sub-result : tie.Need-sub-result
 sub-result c = search needs
 
--- src/image_row.rt:54:27
 part-result-start : tie.Need-part-result-start
 part-result-start c = search needs
 
--- src/image_row.rt:54:27
 part-result-end : tie.Need-part-result-end
-part-result-end c = ?
+part-result-end c = rw (c .enum-told .given .1) at (c .before .before .pre .1)
 
--- src/image_row.rt:55:27
 enum-told-2 : tie.Need-enum-told-2
 enum-told-2 c = search needs
 
--- src/image_row.rt:55:27
 sub-result-2 : tie.Need-sub-result-2
 sub-result-2 c = search needs
 
--- src/image_row.rt:55:27
 part-result-start-2 : tie.Need-part-result-start-2
 part-result-start-2 c = search needs
 
--- src/image_row.rt:55:27
 part-result-end-2 : tie.Need-part-result-end-2
-part-result-end-2 c = ?
+part-result-end-2 c = rw (c .enum-told2 .given .1) at (c .before .before .pre .1)
 
--- src/image_row.rt:49:1
 returns : tie.Need-returns
-returns c = ?
+returns c = rw (c .before .enum-told .given .1) (record { block = refl; place = refl; bytes = refl })
 
--- src/image_row.rt:49:1
 returns-2 : tie.Need-returns-2
-returns-2 c = ?
+returns-2 c = rw (c .before .enum-told2 .given .1) (record { block = refl; place = refl; bytes = refl })
 
 pub part-of-spec : {M : Type 1} → statement M
 part-of-spec =
