@@ -69,8 +69,10 @@ row-inside symbols wording r y h e =
     swap Symbols = refl
     swap Wording = refl
 
--- the part that the code hands back is the row's
-pub row-is : (r : Record) (y : ℕ)
+-- ## what is handed back
+
+-- the part from the row's start to its end
+row-is : (r : Record) (y : ℕ)
     → record { store = r .store; start = rowStart r y; size = rowStart r y + 4 * r .source .w - rowStart r y } ≡ rowPart r y
 unfolding rowPart placeOf imageOf
 row-is r y =
@@ -78,16 +80,18 @@ row-is r y =
     let q : rowStart r y + 4 * r .source .w - rowStart r y ≡ 4 * r .source .w = omega arith in
     λ i. record { store = r .store; start = p i; size = q i }
 
-module _ (l : Layout) (s : Stores) (k : Key) (y : ℕ) where
-  pub part-refused : {r : Refusal} → readRefusal l s k y ≡ some r → emptyPart ≡ partRead l s k y
-  unfolding partRead
-  part-refused e = sym (ap (partAnswer (rowPart (recordNamed l k) y)) e)
+module _ (l : Layout) (s : Stores) (k : Key) (y : ℕ) (symbols wording handed : RefT (List ℕ)) where
+  pub empty-handed : {q : Refusal} → readRefusal l s k y ≡ some q → IsPart symbols wording (record { store = Symbols; start = 0; size = 0 }) handed
+      → IsPart symbols wording (partRead l s k y) handed
+  unfolding partRead emptyPart
+  empty-handed e p = subst (λ (o : Option Refusal). IsPart symbols wording (partAnswer (rowPart (recordNamed l k) y) o) handed) (sym e) p
 
-  pub part-handed : readRefusal l s k y ≡ none → (r : Record) → recordNamed l k ≡ r → rowPart r y ≡ partRead l s k y
+  pub row-handed : readRefusal l s k y ≡ none → (r : Record) → recordNamed l k ≡ r
+      → IsPart symbols wording (record { store = r .store; start = rowStart r y; size = rowStart r y + 4 * r .source .w - rowStart r y }) handed
+      → IsPart symbols wording (partRead l s k y) handed
   unfolding partRead
-  part-handed e r q = ap (λ (z : Record). rowPart z y) (sym q) ∙ sym (ap (partAnswer (rowPart (recordNamed l k) y)) e)
-
--- an empty part of the symbol store
-pub empty-is : (symbols wording r : RefT (List ℕ)) → IsPart symbols wording (record { store = Symbols; start = 0; size = 0 }) r → IsPart symbols wording emptyPart r
-unfolding emptyPart
-empty-is symbols wording r p = p
+  row-handed e r q p =
+      let is : rowPart r y ≡ partAnswer (rowPart (recordNamed l k) y) (readRefusal l s k y) =
+      ap (λ (z : Record). rowPart z y) (sym q) ∙ sym (ap (partAnswer (rowPart (recordNamed l k) y)) e)
+      in
+      subst (λ (part : Part). IsPart symbols wording part handed) (row-is r y ∙ is) p
