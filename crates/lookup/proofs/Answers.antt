@@ -4,6 +4,7 @@ use native.Mathlib.Omega.{arith}
 use mathlib.Core.Path.{_≡_, refl, sym, ap, _∙_}
 use mathlib.Core.Bool.{Bool, true, false, not}
 use mathlib.Core.List.{[], _∷_}
+use mathlib.Core.Logic.{_↔_}
 use mathlib.Core.Option.{Option, none, some}
 use lib.Dec.{leb}
 use borrow.Author.Tests.{le-leb, lt-leb, leb-false, not-false}
@@ -13,7 +14,7 @@ use Rattle.art.specs.declared.memory_rgba8_texture.Pixel.{Pixel}
 use Rattle.records.specs.Records.{imageOf}
 use Rattle.records.specs.Layouts.{standing, wellFormed, pageCount, hasKey, recordNamed}
 use Rattle.records.specs.Operations.{noSuchPage}
-use Rattle.records.specs.Refusals.{firstOf}
+use Rattle.records.specs.Refusals.{numberOf, firstOf}
 use Rattle.records.specs.declared.frame.Key.{Key}
 use Rattle.records.specs.declared.frame.Page.{Page}
 use Rattle.records.specs.declared.frame.Record.{Record}
@@ -21,13 +22,15 @@ use Rattle.records.specs.declared.layout.Layout.{Layout}
 use Rattle.records.specs.declared.refusal.Refusal.{Refusal}
 use Rattle.records.specs.declared.refusal.Refusal.the-variants.{NotWellFormed, NoSuchPage, NoSuchKey, BadRows, PastStore}
 use Rattle.records.proofs.Rows.{hit, skipped, none-left}
-use Rattle.rules.proofs.Rows.{none-holds}
+use Rattle.records.proofs.Theorems.{number-tells, number-some}
+use Rattle.rules.proofs.Rows.{testAt, refusalAt, Passed, Once, exactly-at, none-holds}
 use Rattle.lookup.specs.Zones.{pixelAt}
-use Rattle.lookup.specs.Looking.{pagePast, lookRefusal, lookAnswer, looked}
-use Rattle.lookup.specs.Reading.{readRow, readRefusal, readAnswer, read}
+use Rattle.lookup.specs.Looking.{pagePast, lookRow, lookRefusal, lookAnswer, looked, lookedNumbers}
+use Rattle.lookup.specs.Reading.{readRow, readRefusal, readAnswer, read, readNumbers}
+use Rattle.lookup.specs.declared.image_row.Read.{Read}
 use Rattle.lookup.specs.declared.image_row.Read.the-variants.{Done, Refused as RowRefused}
 use Rattle.lookup.specs.declared.texture_packer.Looked.{Looked}
-use Rattle.lookup.specs.declared.texture_packer.Looked.the-variants.{Refused}
+use Rattle.lookup.specs.declared.texture_packer.Looked.the-variants.{Shows, NoPixel, Refused}
 
 -- ## pixel
 
@@ -54,6 +57,10 @@ module _ (l : Layout) (s : Stores) (p : Page) where
   pub look-passes : wellFormed l ≡ true → p .0 < pageCount (standing l) → pagePast s p (standing l) ≡ false → lookRefusal l s p ≡ none
   look-passes e h q = asked-two e h false (sym q) ∙ skipped false PastStore [] refl ∙ none-left
 
+  pub look-row : lookRefusal l s p ≡ firstOf (lookRow l s p)
+  unfolding lookRefusal
+  look-row = refl
+
   module _ (x y : ℕ) where
     pub looked-refused : {r : Refusal} → lookRefusal l s p ≡ some r → Refused r ≡ looked l s p x y
     unfolding looked
@@ -66,6 +73,45 @@ module _ (l : Layout) (s : Stores) (p : Page) where
     pub looked-found : lookRefusal l s p ≡ none → lookAnswer (pixelAt l s p x y) none ≡ looked l s p x y
     unfolding looked
     looked-found e = sym (ap (lookAnswer (pixelAt l s p x y)) e)
+
+    pub refused-looked : (r : Refusal) → looked l s p x y ≡ Refused r → lookRefusal l s p ≡ some r
+    unfolding looked
+    refused-looked r e = go (pixelAt l s p x y) (lookRefusal l s p) e
+      where
+        go : (k : Option Pixel) (o : Option Refusal) → lookAnswer k o ≡ Refused r → o ≡ some r
+        go none none q = let z : _≡_ {A = ℕ} 0 1 = cc in absurd (omega arith)
+        go (some k) none q = let z : _≡_ {A = ℕ} 0 1 = cc in absurd (omega arith)
+        go none (some n) q = let z : n ≡ r = cc in ap some z
+        go (some k) (some n) q = let z : n ≡ r = cc in ap some z
+
+    -- place n of the row
+    pub look-at : (n : ℕ) → n < 3 → Once n (lookRow l s p)
+        → looked l s p x y ≡ Refused (refusalAt n (lookRow l s p)) ↔ (Passed n (lookRow l s p) × (testAt n (lookRow l s p) ≡ true))
+    look-at n h o =
+        let e = exactly-at (lookRow l s p) n h o in
+        let r = refusalAt n (lookRow l s p) in
+        (λ q. e .0 (sym look-row ∙ refused-looked r q), λ t. sym (looked-refused (look-row ∙ e .1 t)))
+
+    -- what is shown where no check holds
+    pub found-looked : (k : Pixel) → looked l s p x y ≡ Shows k → (lookRefusal l s p ≡ none) × (pixelAt l s p x y ≡ some k)
+    unfolding looked
+    found-looked k e = go (pixelAt l s p x y) (lookRefusal l s p) e
+      where
+        go : (q : Option Pixel) (o : Option Refusal) → lookAnswer q o ≡ Shows k → (o ≡ none) × (q ≡ some k)
+        go none none f = let z : _≡_ {A = ℕ} 0 1 = cc in absurd (omega arith)
+        go (some q) none f = let z : q ≡ k = cc in (refl, ap some z)
+        go none (some n) f = let z : _≡_ {A = ℕ} 0 1 = cc in absurd (omega arith)
+        go (some q) (some n) f = let z : _≡_ {A = ℕ} 0 1 = cc in absurd (omega arith)
+
+    pub none-looked : looked l s p x y ≡ NoPixel → (lookRefusal l s p ≡ none) × (pixelAt l s p x y ≡ none)
+    unfolding looked
+    none-looked e = go (pixelAt l s p x y) (lookRefusal l s p) e
+      where
+        go : (q : Option Pixel) (o : Option Refusal) → lookAnswer q o ≡ NoPixel → (o ≡ none) × (q ≡ none)
+        go none none f = (refl, refl)
+        go (some q) none f = let z : _≡_ {A = ℕ} 0 1 = cc in absurd (omega arith)
+        go none (some n) f = let z : _≡_ {A = ℕ} 0 1 = cc in absurd (omega arith)
+        go (some q) (some n) f = let z : _≡_ {A = ℕ} 0 1 = cc in absurd (omega arith)
 
 -- ## row of an image
 
@@ -121,6 +167,17 @@ module _ (l : Layout) (s : Stores) (k : Key) (y : ℕ) where
       go none q = refl
       go (some n) q = let z : _≡_ {A = ℕ} 0 1 = cc in absurd (omega arith)
 
+  pub read-row : readRefusal l s k y ≡ firstOf (readRow l s k y)
+  unfolding readRefusal
+  read-row = refl
+
+  pub read-at : (n : ℕ) → n < 4 → Once n (readRow l s k y)
+      → read l s k y ≡ RowRefused (refusalAt n (readRow l s k y)) ↔ (Passed n (readRow l s k y) × (testAt n (readRow l s k y) ≡ true))
+  read-at n h o =
+      let e = exactly-at (readRow l s k y) n h o in
+      let r = refusalAt n (readRow l s k y) in
+      (λ q. e .0 (sym read-row ∙ refused-read r q), λ t. sym (read-refused (read-row ∙ e .1 t)))
+
   -- no check holds
   pub record Readable : Type 0 where
     pub formed : wellFormed l ≡ true
@@ -133,3 +190,27 @@ module _ (l : Layout) (s : Stores) (k : Key) (y : ℕ) where
   readable e =
       let h = none-holds (readRow l s k y) e in
       record { formed = not-false _ (h .0); stands = not-false _ (h .1 .0); below = leb-false _ _ (h .1 .1 .0); inside = h .1 .1 .1 .0 }
+
+-- ## the numbers and values of an answer tell it
+
+pub looked-tells : (a b : Looked) → lookedNumbers a ≡ lookedNumbers b → a ≡ b
+looked-tells NoPixel NoPixel e = refl
+looked-tells NoPixel (Shows k) e = let z : _≡_ {A = ℕ} 0 1 = cc in absurd (omega arith)
+looked-tells NoPixel (Refused r) e = let z : 0 ≡ numberOf r = cc in absurd (number-some r (sym z))
+looked-tells (Shows k) NoPixel e = let z : _≡_ {A = ℕ} 1 0 = cc in absurd (omega arith)
+looked-tells (Shows k) (Shows j) e =
+    let r : k .r ≡ j .r = cc in
+    let g : k .g ≡ j .g = cc in
+    let b : k .b ≡ j .b = cc in
+    let a : k .a ≡ j .a = cc in
+    λ i. Shows (record { r = r i; g = g i; b = b i; a = a i })
+looked-tells (Shows k) (Refused r) e = let z : 0 ≡ numberOf r = cc in absurd (number-some r (sym z))
+looked-tells (Refused r) NoPixel e = let z : numberOf r ≡ 0 = cc in absurd (number-some r z)
+looked-tells (Refused r) (Shows k) e = let z : numberOf r ≡ 0 = cc in absurd (number-some r z)
+looked-tells (Refused r) (Refused q) e = let z : numberOf r ≡ numberOf q = cc in ap Refused (number-tells r q z)
+
+pub read-tells : (a b : Read) → readNumbers a ≡ readNumbers b → a ≡ b
+read-tells Done Done e = refl
+read-tells Done (RowRefused r) e = let z : 0 ≡ numberOf r = cc in absurd (number-some r (sym z))
+read-tells (RowRefused r) Done e = let z : numberOf r ≡ 0 = cc in absurd (number-some r z)
+read-tells (RowRefused r) (RowRefused q) e = let z : numberOf r ≡ numberOf q = cc in ap RowRefused (number-tells r q z)

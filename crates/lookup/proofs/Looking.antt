@@ -7,7 +7,7 @@ use mathlib.Core.List.{List, [], _∷_, List·Memᴰ, List·Memᴰ·head, List·
 use lib.ListN.{length, getD, drop, drop-of-length-le}
 use lib.Dec.{eqb}
 use Rattle.geometry.specs.Words.{any, only}
-use Rattle.geometry.proofs.Words.{not-both}
+use Rattle.geometry.proofs.Words.{not-both, or-no-left, or-no-right}
 use Rattle.art.specs.Stores.{Stores, runsPast, InStore}
 use Rattle.records.specs.Records.{imageOf}
 use Rattle.records.specs.Layouts.{onPage}
@@ -15,14 +15,6 @@ use Rattle.records.specs.declared.frame.Page.{Page}
 use Rattle.records.specs.declared.frame.Record.{Record}
 use Rattle.records.proofs.Standing.{rest-next}
 use Rattle.lookup.specs.Looking.{pagePast}
-
-not-left : (a b : Bool) → (a || b) ≡ false → a ≡ false
-not-left true b e = e
-not-left false b e = refl
-
-not-right : (a b : Bool) → (a || b) ≡ false → b ≡ false
-not-right true b e = absurd (not-both refl e)
-not-right false b e = e
 
 and-second : (a b : Bool) → (a && b) ≡ false → a ≡ true → b ≡ false
 and-second true b e h = e
@@ -65,6 +57,6 @@ module _ (s : Stores) (p : Page) where
   -- no image on the page runs past its store: each lies in it
   pub page-in-store : (rs : List Record) → pagePast s p rs ≡ false → (r : Record) → List·Memᴰ r rs → eqb (r .page .0) (p .0) ≡ true → InStore s (imageOf r)
   page-in-store (q ∷ rs) e r (List·Memᴰ·head same) on =
-      let here : pastHere q ≡ false = not-left (pastHere q) (pagePast s p rs) (sym (past-cons q rs) ∙ e) in
+      let here : pastHere q ≡ false = or-no-left (pastHere q) (pagePast s p rs) (sym (past-cons q rs) ∙ e) in
       record { inside = and-second _ _ (ap pastHere same ∙ here) on }
-  page-in-store (q ∷ rs) e r (List·Memᴰ·tail m) on = page-in-store rs (not-right (pastHere q) (pagePast s p rs) (sym (past-cons q rs) ∙ e)) r m on
+  page-in-store (q ∷ rs) e r (List·Memᴰ·tail m) on = page-in-store rs (or-no-right (pastHere q) (pagePast s p rs) (sym (past-cons q rs) ∙ e)) r m on

@@ -4,11 +4,12 @@ use native.Mathlib.Omega.{arith}
 use mathlib.Core.Path.{_≡_, refl, sym, ap, _∙_}
 use mathlib.Core.Bool.{Bool, true, false, cond, _&&_}
 use Rattle.geometry.specs.Rects.{onOutline}
+use Rattle.geometry.proofs.Words.{and-no-left}
 use Rattle.geometry.specs.Placing.{lying}
 use Rattle.geometry.specs.declared.rect.Rect.{Rect}
 use Rattle.geometry.specs.declared.spot.Turn.{Turn}
 use Rattle.geometry.specs.declared.spot.Turn.the-variants.{Upright, Turned}
-use Rattle.art.specs.Stores.{Stores, InStore, BoxIn, uprightPixel, turnedPixel}
+use Rattle.art.specs.Stores.{Stores, InStore, BoxIn, pixelIn, uprightPixel, turnedPoint, turnedPixel}
 use Rattle.art.specs.declared.memory_rgba8_texture.Image.{Image}
 use Rattle.art.specs.declared.memory_rgba8_texture.Pixel.{Pixel}
 use Rattle.records.specs.Records.{boxOf, imageOf, sizeOf}
@@ -79,3 +80,37 @@ module _ (c : Config) (s : Stores) (r : Record) (x y : ℕ) (b : Bool) (is-outli
       → framePixel c s r x y ≡ boxPixel (r .turn) s (imageOf r) (boxOf r) column row
   unfolding framePixel
   frame-read e column row p q = rw (sym is-outline, e, sym p, sym q)
+
+-- ## the frame's own pixels, and those beside it
+
+pub local-own : (i corner side : ℕ) → i < side → local (corner + i) corner side ≡ i
+unfolding local
+local-own i corner side h = omega arith
+
+pub local-before : (x corner side : ℕ) → x ≤ corner → local x corner side ≡ 0
+unfolding local
+local-before x corner side h = omega arith
+
+pub local-after : (x corner side : ℕ) → 1 ≤ side → corner + side ≤ x + 1 → local x corner side ≡ side - 1
+unfolding local
+local-after x corner side h g = omega arith
+
+module _ (c : Config) (s : Stores) (r : Record) (plain : c .outlines ≡ false) where
+  plain-read : (x y column row : ℕ) → column ≡ local x (r .frame .x) (r .frame .w) → row ≡ local y (r .frame .y) (r .frame .h)
+      → framePixel c s r x y ≡ boxPixel (r .turn) s (imageOf r) (boxOf r) column row
+  plain-read x y column row p q = frame-read c s r x y (onOutline (r .frame) x y) refl (and-no-left _ _ plain) column row p q
+
+  module _ (i j : ℕ) (column : i < r .frame .w) (row : j < r .frame .h) where
+    own-read : framePixel c s r (r .frame .x + i) (r .frame .y + j) ≡ boxPixel (r .turn) s (imageOf r) (boxOf r) i j
+    own-read = plain-read _ _ i j (sym (local-own i (r .frame .x) (r .frame .w) column)) (sym (local-own j (r .frame .y) (r .frame .h) row))
+
+    pub upright-own : r .turn ≡ Upright → framePixel c s r (r .frame .x + i) (r .frame .y + j) ≡ pixelIn s (imageOf r) (r .source .x + i) (r .source .y + j)
+    unfolding boxPixel uprightPixel boxOf
+    upright-own t = own-read ∙ ap (λ (u : Turn). boxPixel u s (imageOf r) (boxOf r) i j) t
+
+    pub turned-own : r .turn ≡ Turned → framePixel c s r (r .frame .x + i) (r .frame .y + j) ≡ pixelIn s (imageOf r) (r .source .x + j) (r .source .y + (r .frame .w - i - 1))
+    unfolding boxPixel turnedPixel turnedPoint uprightPixel boxOf lying sizeOf
+    turned-own t =
+        own-read
+        ∙ ap (λ (u : Turn). boxPixel u s (imageOf r) (boxOf r) i j) t
+        ∙ ap (λ (u : Turn). pixelIn s (imageOf r) (r .source .x + j) (r .source .y + (lying u (sizeOf (r .frame)) .h - i - 1))) t
