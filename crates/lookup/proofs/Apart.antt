@@ -2,18 +2,16 @@
 -- begins before e-b, which is at most p. Assumes nothing.
 use Prim.Native.Nat.{ℕ, zero, suc, _+_, _-_, _*_, _≤_, _<_, max}
 use native.Mathlib.Omega.{arith}
-use native.Mathlib.Decide.{decLt}
-use mathlib.Core.Path.{_≡_, refl, sym, ap, _∙_, subst}
+use mathlib.Core.Path.{_≡_, subst}
 use mathlib.Core.Bool.{Bool, true, false, cond}
-use mathlib.Core.List.{List, [], _∷_, map, List·Memᴰ}
+use mathlib.Core.List.{List, [], _∷_, map}
 use lib.ListN.{length, getD}
 use lib.Dec.{eqb}
 use Rattle.geometry.specs.Words.{only}
-use Rattle.geometry.specs.Rects.{holdsPoint}
 use Rattle.geometry.specs.Fits.{Apart, AllApart}
 use Rattle.geometry.specs.declared.rect.Rect.{Rect}
 use Rattle.geometry.proofs.Members.{only-in, map-in}
-use Rattle.geometry.proofs.Rects.{PointIn, point-in, in-point}
+use Rattle.geometry.proofs.Rects.{point-in, in-point}
 use Rattle.records.specs.Layouts.{onPage}
 use Rattle.records.specs.declared.texture_packer_config.Config.{Config}
 use Rattle.records.specs.declared.frame.Record.{Record}

@@ -1,5 +1,5 @@
 -- The bytes of a row that is handed back: 4 x the whole width of them, and pixel x of the row is the image's. Assumes nothing.
-use Prim.Native.Nat.{ℕ, _+_, _-_, _*_, _≤_, _<_}
+use Prim.Native.Nat.{ℕ, _+_, _*_, _≤_, _<_}
 use native.Mathlib.Omega.{arith}
 use mathlib.Core.Path.{_≡_, refl, sym, ap, _∙_}
 use mathlib.Core.Bool.{false}
@@ -8,7 +8,6 @@ use lib.ListN.{length, getD, take, drop, length-drop}
 use lib.Seq.{length-take-le, getD-take, getD-drop}
 use denote.Ref.{RefT, now}
 use Rattle.art.specs.Stores.{Stores, lent, ofStore, bytesOf, runsPast, placeOf, pixelFrom, pixelIn}
-use Rattle.art.specs.declared.memory_rgba8_texture.Pixel.{Pixel}
 use Rattle.art.specs.declared.memory_rgba8_texture.Store.{Store}
 use Rattle.art.specs.declared.memory_rgba8_texture.Store.the-variants.{Symbols, Wording}
 use Rattle.art.proofs.Places.{row-in, in-store}

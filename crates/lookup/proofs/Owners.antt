@@ -4,7 +4,7 @@ use native.Mathlib.Omega.{arith}
 use mathlib.Core.Path.{_≡_, refl, sym, ap, _∙_}
 use mathlib.Core.Bool.{Bool, true, false, cond}
 use mathlib.Core.List.{List, [], _∷_}
-use mathlib.Core.Option.{Option, none, some}
+use mathlib.Core.Option.{none, some}
 use mathlib.Core.Logic.{_⊎_, inl, inr}
 use lib.ListN.{length, getD, drop, drop-of-length-le}
 use lib.Dec.{eqb}
@@ -12,7 +12,6 @@ use Rattle.geometry.specs.Words.{earliest}
 use Rattle.geometry.specs.Rects.{holdsPoint}
 use Rattle.geometry.proofs.Words.{and-left, and-right}
 use Rattle.art.specs.Stores.{Stores}
-use Rattle.art.specs.declared.memory_rgba8_texture.Pixel.{Pixel}
 use Rattle.records.specs.declared.texture_packer_config.Config.{Config}
 use Rattle.records.specs.declared.frame.Page.{Page}
 use Rattle.records.specs.declared.frame.Record.{Record}

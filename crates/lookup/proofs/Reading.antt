@@ -3,13 +3,11 @@ use Prim.Native.Nat.{ℕ, _+_, _-_, _*_, _≤_, _<_}
 use native.Mathlib.Nat.{mul-le-mul}
 use native.Mathlib.Omega.{arith}
 use mathlib.Core.Path.{_≡_, refl, sym, ap, _∙_, subst}
-use mathlib.Core.Bool.{Bool, true, false, not}
+use mathlib.Core.Bool.{true, false}
 use mathlib.Core.List.{List}
 use mathlib.Core.Option.{Option, none, some}
 use lib.ListN.{length, getD}
-use lib.Dec.{leb}
 use denote.Ref.{RefT, now}
-use borrow.Author.Tests.{not-false, leb-false}
 use Rattle.geometry.specs.Words.{any, orElse}
 use Rattle.art.specs.Stores.{Stores, lent, ofStore, bytesOf, runsPast, placeOf}
 use Rattle.art.specs.declared.memory_rgba8_texture.Store.{Store}
@@ -17,7 +15,7 @@ use Rattle.art.specs.declared.memory_rgba8_texture.Store.the-variants.{Symbols,
 use Rattle.art.proofs.Places.{row-in, in-store}
 use Rattle.records.specs.Settings.{blankRecord}
 use Rattle.records.specs.Records.{imageOf}
-use Rattle.records.specs.Layouts.{standing, wellFormed, hasKey, recordOf, recordNamed, keyPlace}
+use Rattle.records.specs.Layouts.{standing, hasKey, recordOf, recordNamed, keyPlace}
 use Rattle.records.specs.declared.frame.Key.{Key}
 use Rattle.records.specs.declared.frame.Record.{Record}
 use Rattle.records.specs.declared.layout.Layout.{Layout}

@@ -9,14 +9,14 @@ use mathlib.Core.List.{List, [], _∷_, List·Memᴰ}
 use mathlib.Core.Logic.{_↔_, _⊎_, inl, inr}
 use mathlib.Core.Option.{Option, none, some}
 use lib.ListN.{length, getD}
-use lib.Dec.{leb, eqb}
+use lib.Dec.{leb}
 use denote.Ref.{RefT, now}
 use borrow.Author.Tests.{eq-eqb, eqb-true}
 use Rattle.geometry.specs.Words.{any}
 use Rattle.geometry.specs.Fits.{Apart}
-use Rattle.geometry.specs.Rects.{holdsPoint, onOutline}
+use Rattle.geometry.specs.Rects.{onOutline}
 use Rattle.geometry.specs.declared.spot.Turn.the-variants.{Upright, Turned}
-use Rattle.geometry.proofs.Words.{not-both, both}
+use Rattle.geometry.proofs.Words.{both}
 use Rattle.art.specs.Stores.{Stores, lent, runsPast, pixelFrom, pixelIn}
 use Rattle.art.specs.declared.memory_rgba8_texture.Pixel.{Pixel}
 use Rattle.records.specs.Refusals.{numberOf, firstOf, rowNumbers}
@@ -33,7 +33,6 @@ use Rattle.records.specs.declared.refusal.Refusal.{Refusal}
 use Rattle.records.specs.declared.refusal.Refusal.the-variants.{NotWellFormed, NoSuchPage, NoSuchKey, BadRows, PastStore}
 use Rattle.records.proofs.Checks.{formed}
 use Rattle.records.proofs.Theorems.{one}
-use Rattle.rules.specs.Placing.{cellOf}
 use Rattle.rules.specs.Faithful.{faithful}
 use Rattle.rules.proofs.Rows.{Passed, answer-in}
 use Rattle.rules.proofs.Theorems.{cells-apart}
@@ -41,7 +40,7 @@ use Rattle.lookup.specs.Zones.{zone, reaches, owner, local, red, framePi
 use Rattle.lookup.specs.Looking.{pagePast, lookRow, lookRefusal, lookAnswer, looked, lookedNumbers}
 use Rattle.lookup.specs.Reading.{readRow, readRefusal, read, readNumbers, Part, rowPart, emptyPart, partAnswer, partRead, partBytes, IsPart}
 use Rattle.lookup.specs.declared.image_row.Read.{Read}
-use Rattle.lookup.specs.declared.image_row.Read.the-variants.{Done, Refused as RowRefused}
+use Rattle.lookup.specs.declared.image_row.Read.the-variants.{Refused as RowRefused}
 use Rattle.lookup.specs.declared.texture_packer.Looked.{Looked}
 use Rattle.lookup.specs.declared.texture_packer.Looked.the-variants.{Shows, NoPixel, Refused}
 use Rattle.lookup.proofs.Zones.{frame-outlined, local-before, local-after, upright-own, turned-own}

@@ -1,8 +1,8 @@
 -- Zones, and what a frame gives a pixel of its zone. Assumes nothing.
-use Prim.Native.Nat.{ℕ, _+_, _-_, _*_, min, _≤_, _<_}
+use Prim.Native.Nat.{ℕ, _+_, _-_, _*_, _≤_, _<_}
 use native.Mathlib.Omega.{arith}
 use mathlib.Core.Path.{_≡_, refl, sym, ap, _∙_}
-use mathlib.Core.Bool.{Bool, true, false, cond, _&&_}
+use mathlib.Core.Bool.{Bool, true, false, _&&_}
 use Rattle.geometry.specs.Rects.{onOutline}
 use Rattle.geometry.proofs.Words.{and-no-left}
 use Rattle.geometry.specs.Placing.{lying}

@@ -1,7 +1,7 @@
 -- `row_of_image` hands back the row of the record that the key names, where nothing refuses it. Assumes nothing.
 use Prim.Native.Nat.{_*_, _≤_, _<_}
 use native.Mathlib.Omega.{arith}
-use mathlib.Core.Path.{_≡_, refl, sym, ap, _∙_, subst}
+use mathlib.Core.Path.{_≡_, refl, sym, _∙_, subst}
 use mathlib.Core.Bool.{false}
 use mathlib.Core.Option.{none}
 use lib.ListN.{length, length-map, getD}
@@ -14,7 +14,6 @@ use Rattle.records.specs.declared.frame.Record.{Record}
 use Rattle.records.proofs.Checks.{Formed, formed, Good}
 use Rattle.records.proofs.Standing.{standing-good}
 use Rattle.lookup.specs.Reading.{readRefusal}
-use Rattle.lookup.specs.declared.image_row.Read.the-variants.{Done, Refused}
 use Rattle.lookup.proofs.Reading.{named-below, named-is, row-few, row-inside, empty-handed, row-handed}
 use Rattle.lookup.proofs.Answers.{Readable, readable, refused-read, done-read}
 use Rattle.lookup.proofs.image_row.row_of_image.Statement.{statement}

@@ -1,7 +1,5 @@
 -- `box_pixel` reads the record's trim box upright or turned. Assumes nothing.
-use mathlib.Core.Path.{_≡_}
 use borrow.Author.Needs.{needs}
-use Rattle.geometry.specs.declared.spot.Turn.the-variants.{Upright, Turned}
 use Rattle.lookup.proofs.Zones.{upright-asks, turned-asks, upright-is, turned-is}
 use Rattle.lookup.proofs.texture_packer.box_pixel.Statement.{statement}
 use Rattle.lookup.proofs.texture_packer.box_pixel.Tie as tie

@@ -1,5 +1,4 @@
 -- `local_of` caps the distance without taking 1 from it. Assumes nothing.
-use native.Mathlib.Omega.{arith}
 use borrow.Author.Needs.{needs}
 use Rattle.lookup.proofs.Zones.{local-within, local-past}
 use Rattle.lookup.proofs.texture_packer.local_of.Statement.{statement}

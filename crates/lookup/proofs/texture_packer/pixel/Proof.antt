@@ -1,14 +1,13 @@
 -- `pixel` asks 2, 11, 5, then looks. Assumes nothing.
 use Prim.Native.Nat.{_<_}
 use native.Mathlib.Omega.{arith}
-use mathlib.Core.Bool.{true, false}
+use mathlib.Core.Bool.{true}
 use mathlib.Core.Path.{_≡_, sym, _∙_}
 use borrow.Author.Tests.{not-true, not-false}
 use borrow.Author.Needs.{needs}
-use Rattle.art.specs.Stores.{lent}
 use Rattle.records.specs.Layouts.{standing, wellFormed, pageCount}
 use Rattle.records.proofs.Answers.{says}
-use Rattle.lookup.specs.Looking.{pagePast, lookedNumbers}
+use Rattle.lookup.specs.Looking.{lookedNumbers}
 use Rattle.lookup.proofs.Answers.{look-unformed, look-no-page, look-past, look-passes, looked-refused, looked-found}
 use Rattle.lookup.proofs.texture_packer.pixel.Statement.{statement}
 use Rattle.lookup.proofs.texture_packer.pixel.Tie as tie

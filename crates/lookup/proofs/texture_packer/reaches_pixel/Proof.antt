@@ -1,5 +1,5 @@
 -- `reaches_pixel` joins the test of the page and that of the zone. Assumes nothing.
-use mathlib.Core.Path.{_≡_, ap, _∙_}
+use mathlib.Core.Path.{ap, _∙_}
 use mathlib.Core.Bool.{Bool, _&&_}
 use lib.Dec.{eqb}
 use borrow.Author.Needs.{needs}
