@@ -40,6 +40,10 @@ hasKey k r = eqb (r .key .0) (k .0)
 unfoldable pub recordOf : Layout → Key → Option Record
 recordOf l k = earliest (hasKey k) (standing l)
 
+-- that record, or the blank one where none has the key
+unfoldable pub recordNamed : Layout → Key → Record
+recordNamed l k = orElse (recordOf l k) blankRecord
+
 -- its place among some, or how many they are
 unfoldable pub keyPlace : Key → List Record → ℕ
 keyPlace k rs = orElse (earliest (λ i. hasKey k (getD rs i blankRecord)) (from 0 (length rs))) (length rs)

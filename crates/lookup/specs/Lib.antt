@@ -1,0 +1,3 @@
+pub mod Zones
+pub mod Looking
+pub mod Reading
