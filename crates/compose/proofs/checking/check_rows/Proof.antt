@@ -1,0 +1,98 @@
+-- `check_rows` compares where no check refuses. Assumes nothing.
+use Prim.Native.Nat.{_*_, _≤_}
+use native.Mathlib.Omega.{arith}
+use mathlib.Core.Path.{_≡_, sym, ap, _∙_}
+use lib.ListN.{length, take}
+use lib.Seq.{length-take-le}
+use denote.Ref.{now}
+use Rattle.geometry.specs.declared.rect.Size.{Size}
+use Rattle.art.specs.Stores.{lent}
+use Rattle.records.proofs.Answers.{says}
+use Rattle.records.proofs.Pages.{side-w, side-h}
+use Rattle.compose.specs.Checking.{checkedNumbers}
+use Rattle.compose.proofs.Answers.{Passed, done-passed, check-refused, check-compared}
+use borrow.Author.Needs.{needs}
+use Rattle.compose.proofs.checking.check_rows.Statement.{statement}
+use Rattle.compose.proofs.checking.check_rows.Tie as tie
+
+-- what the row of checks has let pass
+through : (c : tie.After-enum-told) →
+    let a = c .before .before .before .before .before .before .args in
+    Passed (a .l) (lent (now (a .symbols)) (now (a .wording))) (a .page) (a .first) (a .rows) (length (now (a .shown)))
+through c = done-passed _ _ _ _ _ _ (sym (c .before .before .band-answer .ensures) ∙ c .enum-told .given .1)
+
+-- a row of the page has room
+room : (c : tie.After-struct-known) → 4 * c .before .before .size-of-page .result .w ≤ length (c .before .new-line .result)
+room c =
+    let a = c .before .before .before .before .before .before .before .before .before .args in
+    let wide = side-w (a .l) (through (c .before .before .before) .formed) (a .page) in
+    let w = ap (λ (k : Size). k .w) (c .before .before .size-of-page .ensures) in
+    let n = c .before .new-line .ensures in
+    omega arith
+
+part-long : (c : tie.After-struct-known) → length (take (4 * c .before .before .size-of-page .result .w) (c .before .new-line .result)) ≡ 4 * c .before .before .size-of-page .result .w
+part-long c = length-take-le (4 * c .before .before .size-of-page .result .w) (c .before .new-line .result) (room c)
+
+band-answer-requires : tie.Need-band-answer-requires
+band-answer-requires c κs = search needs
+
+enum-known-r : tie.Need-enum-known-r
+enum-known-r c = search needs
+
+enum-told : tie.Need-enum-told
+enum-told c = search needs
+
+size-of-page-requires : tie.Need-size-of-page-requires
+size-of-page-requires c κs = through c .formed
+
+new-line-requires : tie.Need-new-line-requires
+new-line-requires c κs = search needs
+
+cast-size : tie.Need-cast-size
+cast-size c = search needs
+
+mul-size : tie.Need-mul-size
+mul-size c = search needs
+
+array-borrow-prefix-line : tie.Need-array-borrow-prefix-line
+array-borrow-prefix-line c = room c
+
+slice-aggregate-check-band : tie.Need-slice-aggregate-check-band
+slice-aggregate-check-band c = sym (part-long (c .before))
+
+check-band-requires : tie.Need-check-band-requires
+check-band-requires c κs =
+    let t = through (c .before .before .before .before) in
+    let a = c .before .before .before .before .before .before .before .before .before .before .args in
+    let z = c .before .before .before .size-of-page .ensures in
+    let w = ap (λ (k : Size). k .w) z in
+    let wide = side-w (a .l) (t .formed) (a .page) in
+    let tall = side-h (a .l) (t .formed) (a .page) in
+    let in-page = t .within in
+    ((t .formed, t .stored), (omega arith, omega arith, part-long (c .before), t .long ∙ ap (λ (k : Size). 4 * (k .w * a .rows)) (sym z)))
+
+returns : tie.Need-returns
+returns c = says checkedNumbers (check-refused _ _ _ _ _ _ _ (sym (c .before .before .before .band-answer .ensures) ∙ c .before .r .given .1))
+
+returns-2 : tie.Need-returns-2
+returns-2 c =
+    says checkedNumbers
+    (c .before .check-band .ensures
+    ∙ check-compared _ _ _ _ _ _ _ _ (c .before .before .before .before .before .size-of-page .ensures) (sym (c .before .before .before .before .before .before .before .before .band-answer .ensures) ∙ c .before .before .before .before .before .before .enum-told .given .1))
+
+pub check-rows-spec : {M : Type 1} → statement M
+check-rows-spec =
+    tie.close
+    (tie.spec
+    band-answer-requires
+    enum-known-r
+    enum-told
+    size-of-page-requires
+    new-line-requires
+    cast-size
+    mul-size
+    array-borrow-prefix-line
+    slice-aggregate-check-band
+    check-band-requires
+    returns
+    returns-2)

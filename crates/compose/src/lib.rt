@@ -1,0 +1,3 @@
+// Rows of a page composed into a lent buffer, and lent rows checked byte by byte.
+pub mod checking;
+pub mod image_exporter;

@@ -1,0 +1,4 @@
+pub mod Pixels
+pub mod Frames
+pub mod Pictures
+pub mod Stacks

@@ -1,0 +1,3 @@
+pub mod Backgrounds
+pub mod Pictures
+pub mod Painting

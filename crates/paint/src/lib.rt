@@ -1,0 +1,3 @@
+// Composing: the page's background, and over it the zones of its images.
+pub mod background;
+pub mod painting;
