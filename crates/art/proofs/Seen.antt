@@ -1,7 +1,7 @@
 -- Searching the numbers below a bound: the one law for columns and for rows, and for the pixels of each. Assumes nothing.
 use Prim.Native.Nat.{ℕ, zero, suc, _+_, _-_, _≤_, _<_}
 use native.Mathlib.Omega.{arith}
-use native.Mathlib.Decide.{ℕ-discrete}
+use native.Mathlib.Decide.{ℕ-discrete, decLt}
 use mathlib.Core.Path.{_≡_, refl, sym, ap, _∙_, subst}
 use mathlib.Core.Bool.{Bool, true, false}
 use mathlib.Core.Logic.{_⊎_, inl, inr}
@@ -147,6 +147,21 @@ module _ (t : ℕ → Bool) where
           let g : (m < k → ⊥) = λ h. not-both (l .passes) (f .before m h) in
           record { first = subst (First t n) (sym p) f; last = subst (Last t n) e l; ordered = omega arith }
 
+  -- below n the first passes; and it is never past n
+  pub first-below : (n : ℕ) → firstSeen t n < n → First t n (firstSeen t n)
+  first-below n h = go (find n)
+    where
+      go : Found n → First t n (firstSeen t n)
+      go (inl clear) = let q = first-none t n clear in absurd (omega arith)
+      go (inr (k, m, f, l)) = subst (First t n) (sym (first-is t n k f)) f
+
+  pub first-few : (n : ℕ) → firstSeen t n ≤ n
+  first-few n = go (find n)
+    where
+      go : Found n → firstSeen t n ≤ n
+      go (inl clear) = let q = first-none t n clear in omega arith
+      go (inr (k, m, f, l)) = let q = first-is t n k f in omega (arith, f .below)
+
   pub first-le : (n k : ℕ) → k < n → t k ≡ true → firstSeen t n ≤ k
   first-le n k h e =
       let f = ends n k h e .first in
@@ -158,6 +173,22 @@ module _ (t : ℕ → Bool) where
       let r = ends n k h e in
       let q : (pastSeen t n - 1 < k → ⊥) = λ g. not-both e (r .last .after k g h) in
       omega (arith, r .ordered)
+
+-- tests that agree below n pass first at the same number
+pub first-same : (t u : ℕ → Bool) (n : ℕ) → ((k : ℕ) → k < n → t k ≡ u k) → firstSeen t n ≡ firstSeen u n
+first-same t u n h = go (decLt (firstSeen t n) n)
+  where
+    go : Dec (firstSeen t n < n) → firstSeen t n ≡ firstSeen u n
+    go (yes b) =
+        let f = first-below t n b in
+        sym (first-is u n (firstSeen t n) (record { below = b; passes = sym (h (firstSeen t n) b) ∙ f .passes; before = λ j g. sym (h j (omega arith)) ∙ f .before j g }))
+    go (no b) =
+        let e : firstSeen t n ≡ n = let q = first-few t n in omega arith in
+        e ∙ sym (first-none u n (λ j g. sym (h j g) ∙ none-under j g (t j) refl))
+      where
+        none-under : (j : ℕ) → j < n → (c : Bool) → t j ≡ c → t j ≡ false
+        none-under j g true e = let q = first-le t n j g e in absurd (omega arith)
+        none-under j g false e = e
 
 -- ## pixels by columns and by rows
 

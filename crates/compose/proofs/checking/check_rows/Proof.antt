@@ -10,7 +10,7 @@ use Rattle.art.specs.Stores.{lent}
 use Rattle.records.proofs.Answers.{says}
 use Rattle.records.proofs.Pages.{side-w, side-h}
 use Rattle.compose.specs.Checking.{checkedNumbers}
-use Rattle.compose.proofs.Answers.{Passed, done-passed, check-refused, check-compared}
+use Rattle.compose.proofs.Answers.{Unrefused, done-unrefused, check-refused, check-compared}
 use borrow.Author.Needs.{needs}
 use Rattle.compose.proofs.checking.check_rows.Statement.{statement}
 use Rattle.compose.proofs.checking.check_rows.Tie as tie
@@ -18,8 +18,8 @@ use Rattle.compose.proofs.checking.check_rows.Tie as tie
 -- what the row of checks has let pass
 through : (c : tie.After-enum-told) →
     let a = c .before .before .before .before .before .before .args in
-    Passed (a .l) (lent (now (a .symbols)) (now (a .wording))) (a .page) (a .first) (a .rows) (length (now (a .shown)))
-through c = done-passed _ _ _ _ _ _ (sym (c .before .before .band-answer .ensures) ∙ c .enum-told .given .1)
+    Unrefused (a .l) (lent (now (a .symbols)) (now (a .wording))) (a .page) (a .first) (a .rows) (length (now (a .shown)))
+through c = done-unrefused _ _ _ _ _ _ (sym (c .before .before .band-answer .ensures) ∙ c .enum-told .given .1)
 
 -- a row of the page has room
 room : (c : tie.After-struct-known) → 4 * c .before .before .size-of-page .result .w ≤ length (c .before .new-line .result)

@@ -8,7 +8,7 @@ use Rattle.geometry.specs.declared.rect.Size.{Size}
 use Rattle.art.specs.Stores.{lent}
 use Rattle.records.proofs.Pages.{side-w, side-h}
 use Rattle.compose.specs.Composing.{composedNumbers}
-use Rattle.compose.proofs.Answers.{Passed, done-passed, answer-is, buffer-kept, buffer-composed, band-is}
+use Rattle.compose.proofs.Answers.{Unrefused, done-unrefused, answer-is, buffer-kept, buffer-composed, band-is}
 use borrow.Author.Needs.{needs}
 use Rattle.compose.proofs.image_exporter.compose_rows.Statement.{statement}
 use Rattle.compose.proofs.image_exporter.compose_rows.Tie as tie
@@ -16,8 +16,8 @@ use Rattle.compose.proofs.image_exporter.compose_rows.Tie as tie
 -- what the row of checks has let pass
 through : (c : tie.After-enum-told) →
     let a = c .before .before .before .before .before .before .args in
-    Passed (a .l) (lent (now (a .symbols)) (now (a .wording))) (a .page) (a .first) (a .rows) (length (now (a .buffer)))
-through c = done-passed _ _ _ _ _ _ (sym (c .before .before .band-answer .ensures) ∙ c .enum-told .given .1)
+    Unrefused (a .l) (lent (now (a .symbols)) (now (a .wording))) (a .page) (a .first) (a .rows) (length (now (a .buffer)))
+through c = done-unrefused _ _ _ _ _ _ (sym (c .before .before .band-answer .ensures) ∙ c .enum-told .given .1)
 
 band-answer-requires : tie.Need-band-answer-requires
 band-answer-requires c κs = search needs
