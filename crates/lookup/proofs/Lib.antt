@@ -6,3 +6,4 @@ pub mod Reading
 pub mod Bytes
 pub mod Answers
 pub mod Theorems
+pub mod Table
