@@ -102,13 +102,19 @@ module _ (l : Layout) (s : Stores) (p : Page) (g : Background) (first n : ℕ) (
   unfolding composedAnswer
   answer-is e = e
 
-  pub buffer-kept : {r : Refusal} → composeAnswer (bandRefusal l s p first n (length old)) ≡ Refused r → old ≡ composedBuffer l s p g first n old
+  pub kept-of-some : (r : Refusal) → bandRefusal l s p first n (length old) ≡ some r → old ≡ composedBuffer l s p g first n old
   unfolding composedBuffer
-  buffer-kept {r} e = sym (ap (composeBuffer old (band l s p g first n)) (refused-some (bandRefusal l s p first n (length old)) r e))
+  kept-of-some r e = sym (ap (composeBuffer old (band l s p g first n)) e)
+
+  pub buffer-kept : {r : Refusal} → composeAnswer (bandRefusal l s p first n (length old)) ≡ Refused r → old ≡ composedBuffer l s p g first n old
+  buffer-kept {r} e = kept-of-some r (refused-some (bandRefusal l s p first n (length old)) r e)
+
+  pub buffer-of-done : bandRefusal l s p first n (length old) ≡ none → band l s p g first n ≡ composedBuffer l s p g first n old
+  unfolding composedBuffer
+  buffer-of-done e = sym (ap (composeBuffer old (band l s p g first n)) e)
 
   pub buffer-composed : composeAnswer (bandRefusal l s p first n (length old)) ≡ Done → band l s p g first n ≡ composedBuffer l s p g first n old
-  unfolding composedBuffer
-  buffer-composed e = sym (ap (composeBuffer old (band l s p g first n)) (done-none (bandRefusal l s p first n (length old)) e))
+  buffer-composed e = buffer-of-done (done-none (bandRefusal l s p first n (length old)) e)
 
 -- rows that 13 lets pass are no more than the page has
 pub rows-few : (z : Size) (first n m : ℕ) → badRows z first n ≡ false → z .h ≤ m → n ≤ m
