@@ -12,7 +12,7 @@ use Rattle.geometry.specs.declared.rect.Rect.{Rect}
 use Rattle.geometry.specs.declared.rect.Size.{Size}
 use Rattle.records.specs.Refusals.{firstOf}
 use Rattle.records.specs.Settings.{blankRecord}
-use Rattle.records.specs.Layouts.{standing, wellFormed, hasKey, recordOf, keyPlace, sizeOfPage}
+use Rattle.records.specs.Layouts.{standing, wellFormed, hasKey, recordOf, keyPlace, sizeOfPage, recordNamed}
 use Rattle.records.specs.declared.frame.Key.{Key}
 use Rattle.records.specs.declared.frame.Record.{Record}
 use Rattle.records.specs.declared.layout.Layout.{Layout}
@@ -22,7 +22,7 @@ use Rattle.records.proofs.Rows.{hit, skipped, none-left, at-in}
 use Rattle.records.proofs.Checks.{Good, formed}
 use Rattle.records.proofs.Keys.{named as named-by, stands-below}
 use Rattle.records.proofs.Pages.{ends-few, side-w, side-h}
-use Rattle.coords.specs.Coordinates.{nought, corners, named, namedPageSize, between, pastEdge, wanted, locateRow, locateRefusal, locateAnswer, located}
+use Rattle.coords.specs.Coordinates.{nought, corners, namedPageSize, between, pastEdge, wanted, locateRow, locateRefusal, locateAnswer, located}
 use Rattle.coords.specs.Parts.{Countable, texelAnswer, requested}
 use Rattle.coords.specs.declared.locate.Request.{Request}
 use Rattle.coords.specs.declared.locate.Request.the-variants.{Pixels as AskPixels, Edges, Inset}
@@ -62,36 +62,36 @@ module _ (l : Layout) (k : Key) where
   abbrev pub placed : Record
   placed = getD (standing l) (keyPlace k (standing l)) blankRecord
 
-  names : keyPlace k (standing l) < length (standing l) → named l k ≡ placed
-  unfolding named recordOf
+  names : keyPlace k (standing l) < length (standing l) → recordNamed l k ≡ placed
+  unfolding recordNamed recordOf
   names h = ap (λ (o : Option Record). orElse o blankRecord) (named-by k (standing l) h .is)
 
   -- a key that stands names a standing record
-  pub named-in : any (hasKey k) (standing l) ≡ true → List·Memᴰ (named l k) (standing l)
+  pub named-in : any (hasKey k) (standing l) ≡ true → List·Memᴰ (recordNamed l k) (standing l)
   named-in t =
       let h = stands-below k (standing l) t in
       subst (λ (r : Record). List·Memᴰ r (standing l)) (sym (names h)) (at-in (standing l) blankRecord (keyPlace k (standing l)) h)
 
   module _ (e : wellFormed l ≡ true) (t : any (hasKey k) (standing l) ≡ true) where
-    pub named-good : Good (l .config) (named l k)
-    named-good = formed l e .each (named l k) (named-in t)
+    pub named-good : Good (l .config) (recordNamed l k)
+    named-good = formed l e .each (recordNamed l k) (named-in t)
 
     -- its frame and its page are small
-    pub countable : Countable (named l k .frame) (namedPageSize l k)
+    pub countable : Countable (recordNamed l k .frame) (namedPageSize l k)
     unfolding namedPageSize
     countable =
         let ends = ends-few l (formed l e) named-good in
         record {
           right = omega (arith, ends .w);
           bottom = omega (arith, ends .h);
-          width = omega (arith, side-w l e (named l k .page));
-          height = omega (arith, side-h l e (named l k .page));
+          width = omega (arith, side-w l e (recordNamed l k .page));
+          height = omega (arith, side-h l e (recordNamed l k .page));
         }
 
 module _ (l : Layout) (k : Key) (q : Request) where
   pub refuses : {r : Refusal} → locateRefusal l k q ≡ some r → located l k q ≡ Refused r
   unfolding located
-  refuses e = ap (locateAnswer (wanted q (named l k .frame) (namedPageSize l k))) e
+  refuses e = ap (locateAnswer (wanted q (recordNamed l k .frame) (namedPageSize l k))) e
 
   pub unformed : wellFormed l ≡ false → located l k q ≡ Refused NotWellFormed
   unfolding locateRefusal locateRow
@@ -103,10 +103,10 @@ module _ (l : Layout) (k : Key) (q : Request) where
       refuses
       (skipped (not (wellFormed l)) NotWellFormed _ (ap not e) ∙ hit (not (any (hasKey k) (standing l))) NoSuchKey _ (ap not t))
 
-  pub found : wellFormed l ≡ true → any (hasKey k) (standing l) ≡ true → located l k q ≡ requested q (named l k .frame) (namedPageSize l k)
+  pub found : wellFormed l ≡ true → any (hasKey k) (standing l) ≡ true → located l k q ≡ requested q (recordNamed l k .frame) (namedPageSize l k)
   unfolding located locateRefusal locateRow
   found e t =
-      ap (locateAnswer (wanted q (named l k .frame) (namedPageSize l k)))
+      ap (locateAnswer (wanted q (recordNamed l k .frame) (namedPageSize l k)))
       (skipped (not (wellFormed l)) NotWellFormed _ (ap not e) ∙ skipped (not (any (hasKey k) (standing l))) NoSuchKey _ (ap not t))
 
 -- ## the same, as the code reads them: r at the key's place, s its page's size
@@ -114,7 +114,7 @@ module _ (l : Layout) (k : Key) (q : Request) where
 module _ (l : Layout) (k : Key) (e : wellFormed l ≡ true) (h : keyPlace k (standing l) < length (standing l))
     (r : Record) (s : Size) (p : r ≡ placed l k) (z : s ≡ sizeOfPage l (r .page))
   where
-    frame-is : named l k .frame ≡ r .frame
+    frame-is : recordNamed l k .frame ≡ r .frame
     frame-is = ap (λ (n : Record). n .frame) (names l k h ∙ sym p)
 
     page-is : namedPageSize l k ≡ s

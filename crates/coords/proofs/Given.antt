@@ -12,7 +12,7 @@ use Rattle.geometry.specs.declared.rect.Rect.{Rect}
 use Rattle.geometry.specs.declared.rect.Size.{Size}
 use Rattle.geometry.proofs.Members.{only-in}
 use Rattle.geometry.proofs.Words.{or-no-left, or-no-right}
-use Rattle.records.specs.Layouts.{standing, wellFormed, hasKey, onPage, sizeOfPage}
+use Rattle.records.specs.Layouts.{standing, wellFormed, hasKey, onPage, sizeOfPage, recordNamed}
 use Rattle.records.specs.declared.frame.Key.{Key}
 use Rattle.records.specs.declared.frame.Record.{Record}
 use Rattle.records.specs.declared.layout.Layout.{Layout}
@@ -21,7 +21,7 @@ use Rattle.records.specs.declared.refusal.Refusal.the-variants.{NotWellFormed, 
 use Rattle.records.proofs.Rows.{passed}
 use Rattle.records.proofs.Checks.{framed}
 use Rattle.records.proofs.Layouts.{width-holds, height-holds}
-use Rattle.coords.specs.Coordinates.{named, namedPageSize, badInset, pastEdge, outOfPage, wanted, locateRow, locateRefusal, locateAnswer, located}
+use Rattle.coords.specs.Coordinates.{namedPageSize, badInset, pastEdge, outOfPage, wanted, locateRow, locateRefusal, locateAnswer, located}
 use Rattle.coords.specs.declared.locate.Corners.{Corners}
 use Rattle.coords.specs.declared.locate.Request.{Request}
 use Rattle.coords.specs.declared.locate.Request.the-variants.{Pixels as AskPixels, Edges, Inset}
@@ -48,15 +48,15 @@ texels-by a (some r) e = let z : _≡_ {A = ℕ} 0 1 = cc in absurd (omega arith
 module _ (l : Layout) (k : Key) (q : Request) where
   pub refusal-of : {r : Refusal} → located l k q ≡ Refused r → locateRefusal l k q ≡ some r
   unfolding located
-  refusal-of e = refused-by q (named l k .frame) (namedPageSize l k) (locateRefusal l k q) e
+  refusal-of e = refused-by q (recordNamed l k .frame) (namedPageSize l k) (locateRefusal l k q) e
 
-  pub pixels-of : {f : Rect} → located l k q ≡ Pixels f → (locateRefusal l k q ≡ none) × (wanted q (named l k .frame) (namedPageSize l k) ≡ Pixels f)
+  pub pixels-of : {f : Rect} → located l k q ≡ Pixels f → (locateRefusal l k q ≡ none) × (wanted q (recordNamed l k .frame) (namedPageSize l k) ≡ Pixels f)
   unfolding located
-  pixels-of e = pixels-by (wanted q (named l k .frame) (namedPageSize l k)) (locateRefusal l k q) e
+  pixels-of e = pixels-by (wanted q (recordNamed l k .frame) (namedPageSize l k)) (locateRefusal l k q) e
 
-  pub texels-of : {c : Corners} → located l k q ≡ Texels c → (locateRefusal l k q ≡ none) × (wanted q (named l k .frame) (namedPageSize l k) ≡ Texels c)
+  pub texels-of : {c : Corners} → located l k q ≡ Texels c → (locateRefusal l k q ≡ none) × (wanted q (recordNamed l k .frame) (namedPageSize l k) ≡ Texels c)
   unfolding located
-  texels-of e = texels-by (wanted q (named l k .frame) (namedPageSize l k)) (locateRefusal l k q) e
+  texels-of e = texels-by (wanted q (recordNamed l k .frame) (namedPageSize l k)) (locateRefusal l k q) e
 
 -- ## no check holds
 
@@ -64,7 +64,7 @@ pub record Passed (l : Layout) (k : Key) (q : Request) : Type 0 where
   pub formed : wellFormed l ≡ true
   pub stands : any (hasKey k) (standing l) ≡ true
   pub inset : badInset q ≡ false
-  pub page : outOfPage q (named l k .frame) (namedPageSize l k) ≡ false
+  pub page : outOfPage q (recordNamed l k .frame) (namedPageSize l k) ≡ false
 
 module _ (l : Layout) (k : Key) (q : Request) where
   pub passed-row : locateRefusal l k q ≡ none → Passed l k q
@@ -73,7 +73,7 @@ module _ (l : Layout) (k : Key) (q : Request) where
       let two = passed (not (wellFormed l)) NotWellFormed _ e in
       let fifteen = passed (not (any (hasKey k) (standing l))) NoSuchKey _ (two .1) in
       let seventeen = passed (badInset q) BadInset _ (fifteen .1) in
-      let sixteen = passed (outOfPage q (named l k .frame) (namedPageSize l k)) PastPage [] (seventeen .1) in
+      let sixteen = passed (outOfPage q (recordNamed l k .frame) (namedPageSize l k)) PastPage [] (seventeen .1) in
       record { formed = not-false _ (two .0); stands = not-false _ (fifteen .0); inset = seventeen .0; page = sixteen .0 }
 
 -- ## a frame that is not past the page
@@ -83,12 +83,12 @@ pub record Sides (s : Size) : Type 0 where
   pub wide : 0 < s .w
   pub tall : 0 < s .h
 
-pub sides : (l : Layout) (k : Key) → wellFormed l ≡ true → any (hasKey k) (standing l) ≡ true → pastEdge (named l k .frame) (namedPageSize l k) ≡ false → Sides (namedPageSize l k)
+pub sides : (l : Layout) (k : Key) → wellFormed l ≡ true → any (hasKey k) (standing l) ≡ true → pastEdge (recordNamed l k .frame) (namedPageSize l k) ≡ false → Sides (namedPageSize l k)
 unfolding pastEdge
 sides l k e t p =
-    let f = named l k .frame in
+    let f = recordNamed l k .frame in
     let s = namedPageSize l k in
-    let small = framed (l .config) (named l k) (named-good l k e t) in
+    let small = framed (l .config) (recordNamed l k) (named-good l k e t) in
     let right : f .x + f .w ≤ s .w = ltb-false _ _ (or-no-left (ltb (s .w) (f .x + f .w)) (ltb (s .h) (f .y + f .h)) p) in
     let bottom : f .y + f .h ≤ s .h = ltb-false _ _ (or-no-right (ltb (s .w) (f .x + f .w)) (ltb (s .h) (f .y + f .h)) p) in
     record { wide = omega (arith, small .some-w); tall = omega (arith, small .some-h) }
@@ -96,20 +96,20 @@ sides l k e t p =
 -- ## a page that is not forced ends no earlier than its frames
 
 module _ (l : Layout) (k : Key) (e : wellFormed l ≡ true) (t : any (hasKey k) (standing l) ≡ true) (free : l .config .forced ≡ false) where
-  on-page : List·Memᴰ (named l k) (onPage (named l k .page .0) (standing l))
+  on-page : List·Memᴰ (recordNamed l k) (onPage (recordNamed l k .page .0) (standing l))
   unfolding onPage
-  on-page = only-in (λ (r : Record). eqb (r .page .0) (named l k .page .0)) (standing l) (named-in l k t) (eq-eqb (named l k .page .0) (named l k .page .0) refl)
+  on-page = only-in (λ (r : Record). eqb (r .page .0) (recordNamed l k .page .0)) (standing l) (named-in l k t) (eq-eqb (recordNamed l k .page .0) (recordNamed l k .page .0) refl)
 
-  free-inside : pastEdge (named l k .frame) (namedPageSize l k) ≡ false
+  free-inside : pastEdge (recordNamed l k .frame) (namedPageSize l k) ≡ false
   unfolding pastEdge namedPageSize
   free-inside =
-      let p = named l k .page in
-      let f = framed (l .config) (named l k) (named-good l k e t) in
-      let w = le-ltb (sizeOfPage l p .w) (named l k .frame .x + named l k .frame .w) (omega (arith, f .some-w, width-holds l p free (named l k) on-page)) in
-      let h = le-ltb (sizeOfPage l p .h) (named l k .frame .y + named l k .frame .h) (omega (arith, f .some-h, height-holds l p free (named l k) on-page)) in
+      let p = recordNamed l k .page in
+      let f = framed (l .config) (recordNamed l k) (named-good l k e t) in
+      let w = le-ltb (sizeOfPage l p .w) (recordNamed l k .frame .x + recordNamed l k .frame .w) (omega (arith, f .some-w, width-holds l p free (recordNamed l k) on-page)) in
+      let h = le-ltb (sizeOfPage l p .h) (recordNamed l k .frame .y + recordNamed l k .frame .h) (omega (arith, f .some-h, height-holds l p free (recordNamed l k) on-page)) in
       rw (w, h)
 
-  pub free-never : (q : Request) → outOfPage q (named l k .frame) (namedPageSize l k) ≡ false
+  pub free-never : (q : Request) → outOfPage q (recordNamed l k .frame) (namedPageSize l k) ≡ false
   free-never AskPixels = refl
   free-never Edges = free-inside
   free-never (Inset i) = free-inside

@@ -14,7 +14,8 @@ use Rattle.records.specs.declared.frame.Key.{Key}
 use Rattle.records.specs.declared.layout.Layout.{Layout}
 use Rattle.records.specs.declared.refusal.Refusal.{Refusal}
 use Rattle.records.proofs.Theorems.{number-tells, number-some}
-use Rattle.coords.specs.Coordinates.{num, corners, named, namedPageSize, wanted, locateRefusal, locateAnswer, located, locatedNumbers}
+use Rattle.records.specs.Layouts.{recordNamed}
+use Rattle.coords.specs.Coordinates.{num, corners, namedPageSize, wanted, locateRefusal, locateAnswer, located, locatedNumbers}
 use Rattle.coords.specs.declared.locate.Corners.{Corners}
 use Rattle.coords.specs.declared.locate.Request.{Request}
 use Rattle.coords.specs.declared.locate.Request.the-variants.{Pixels as AskPixels, Edges, Inset}
@@ -51,7 +52,7 @@ wanted-f32 (Inset i) f s none = corners-f32 f s i
 
 pub located-f32 : (l : Layout) (k : Key) (q : Request) → HoldsF32 (located l k q)
 unfolding located
-located-f32 l k q = wanted-f32 q (named l k .frame) (namedPageSize l k) (locateRefusal l k q)
+located-f32 l k q = wanted-f32 q (recordNamed l k .frame) (namedPageSize l k) (locateRefusal l k q)
 
 -- ## one answer for each list of numbers
 

@@ -12,13 +12,13 @@ use borrow.Author.Tests.{not-true, not-false}
 use Rattle.geometry.specs.Words.{any}
 use Rattle.geometry.proofs.Words.{not-both}
 use Rattle.records.specs.Refusals.{Row, rowNumbers}
-use Rattle.records.specs.Layouts.{standing, wellFormed, hasKey}
+use Rattle.records.specs.Layouts.{standing, wellFormed, hasKey, recordNamed}
 use Rattle.records.specs.declared.frame.Key.{Key}
 use Rattle.records.specs.declared.layout.Layout.{Layout}
 use Rattle.records.specs.declared.refusal.Refusal.{Refusal}
 use Rattle.records.specs.declared.refusal.Refusal.the-variants.{NotWellFormed, NoSuchKey, BadInset, PastPage}
 use Rattle.records.proofs.Rows.{First, is-first, exactly}
-use Rattle.coords.specs.Coordinates.{nought, corners, named, namedPageSize, between, badInset, pastEdge, outOfPage, wanted, locateRow, locateRefusal, located, locatedNumbers}
+use Rattle.coords.specs.Coordinates.{nought, corners, namedPageSize, between, badInset, pastEdge, outOfPage, wanted, locateRow, locateRefusal, located, locatedNumbers}
 use Rattle.coords.specs.Bits.{AllExact, insetNought}
 use Rattle.coords.specs.Parts.{Countable}
 use Rattle.coords.specs.declared.locate.Corners.{Corners}
@@ -54,7 +54,7 @@ module _ (l : Layout) (k : Key) (q : Request) where
   seventeen = (badInset q, BadInset)
 
   abbrev sixteen : Check
-  sixteen = (outOfPage q (named l k .frame) (namedPageSize l k), PastPage)
+  sixteen = (outOfPage q (recordNamed l k .frame) (namedPageSize l k), PastPage)
 
   -- not well-formed
   pub locate-2 : located l k q ≡ Refused NotWellFormed ↔ wellFormed l ≡ false
@@ -83,7 +83,7 @@ module _ (l : Layout) (k : Key) (q : Request) where
 
   -- frame past the page's right or bottom edge
   pub locate-16 : located l k q ≡ Refused PastPage
-      ↔ (wellFormed l ≡ true) × (any (hasKey k) (standing l) ≡ true) × (badInset q ≡ false) × (outOfPage q (named l k .frame) (namedPageSize l k) ≡ true)
+      ↔ (wellFormed l ≡ true) × (any (hasKey k) (standing l) ≡ true) × (badInset q ≡ false) × (outOfPage q (recordNamed l k .frame) (namedPageSize l k) ≡ true)
   unfolding locateRefusal locateRow
   locate-16 =
       let x = exactly (two ∷ fifteen ∷ seventeen ∷ []) (sixteen .0) (sixteen .1) [] refl refl in (
@@ -126,7 +126,7 @@ edges-17 l k e = not-both (locate-17 l k Edges .0 e .2) refl
 pub forced-16 : (l : Layout) (k : Key) (q : Request) → located l k q ≡ Refused PastPage → l .config .forced ≡ true
 forced-16 l k q e = go (l .config .forced) refl
   where
-    at : (wellFormed l ≡ true) × (any (hasKey k) (standing l) ≡ true) × (badInset q ≡ false) × (outOfPage q (named l k .frame) (namedPageSize l k) ≡ true)
+    at : (wellFormed l ≡ true) × (any (hasKey k) (standing l) ≡ true) × (badInset q ≡ false) × (outOfPage q (recordNamed l k .frame) (namedPageSize l k) ≡ true)
     at = locate-16 l k q .0 e
 
     go : (b : Bool) → l .config .forced ≡ b → l .config .forced ≡ true
@@ -136,15 +136,15 @@ forced-16 l k q e = go (l .config .forced) refl
 -- ## "Pixels answer the frame. The others answer four f32 numbers .. with i = 0 at edges"
 
 module _ (l : Layout) (k : Key) (e : wellFormed l ≡ true) (t : any (hasKey k) (standing l) ≡ true) where
-  pub pixels-are : located l k AskPixels ≡ Pixels (named l k .frame)
-  pixels-are = found l k AskPixels e t ∙ ask-pixels (named l k .frame) (namedPageSize l k)
+  pub pixels-are : located l k AskPixels ≡ Pixels (recordNamed l k .frame)
+  pixels-are = found l k AskPixels e t ∙ ask-pixels (recordNamed l k .frame) (namedPageSize l k)
 
-  module _ (inside : pastEdge (named l k .frame) (namedPageSize l k) ≡ false) where
-    pub edges-are : located l k Edges ≡ Texels (corners (named l k .frame) (namedPageSize l k) nought)
-    edges-are = found l k Edges e t ∙ ask-edges (named l k .frame) (namedPageSize l k) ∙ texels-in (named l k .frame) (namedPageSize l k) nought inside
+  module _ (inside : pastEdge (recordNamed l k .frame) (namedPageSize l k) ≡ false) where
+    pub edges-are : located l k Edges ≡ Texels (corners (recordNamed l k .frame) (namedPageSize l k) nought)
+    edges-are = found l k Edges e t ∙ ask-edges (recordNamed l k .frame) (namedPageSize l k) ∙ texels-in (recordNamed l k .frame) (namedPageSize l k) nought inside
 
-    pub inset-are : (i : Float) → between i ≡ true → located l k (Inset i) ≡ Texels (corners (named l k .frame) (namedPageSize l k) i)
-    inset-are i b = found l k (Inset i) e t ∙ ask-inset (named l k .frame) (namedPageSize l k) i b ∙ texels-in (named l k .frame) (namedPageSize l k) i inside
+    pub inset-are : (i : Float) → between i ≡ true → located l k (Inset i) ≡ Texels (corners (recordNamed l k .frame) (namedPageSize l k) i)
+    inset-are i b = found l k (Inset i) e t ∙ ask-inset (recordNamed l k .frame) (namedPageSize l k) i b ∙ texels-in (recordNamed l k .frame) (namedPageSize l k) i inside
 
 -- ## "Where i is 0 and the page side a power of two, the number is exact: its decoded bits times the side give the pixel column or row."
 
@@ -155,21 +155,21 @@ module _ (l : Layout) (k : Key) (q : Request) (c : Corners) (e : located l k q �
   clear : Passed l k q
   clear = passed-row l k q (texels-of l k q e .0)
 
-  small : Countable (named l k .frame) (namedPageSize l k)
+  small : Countable (recordNamed l k .frame) (namedPageSize l k)
   small = countable l k (clear .formed) (clear .stands)
 
-  pub exact-answer : insetNought q ≡ true → AllExact (named l k .frame) (namedPageSize l k) c
+  pub exact-answer : insetNought q ≡ true → AllExact (recordNamed l k .frame) (namedPageSize l k) c
   unfolding eq
   exact-answer z = go q z (texels-of l k q e .1)
     where
-      go : (r : Request) → insetNought r ≡ true → wanted r (named l k .frame) (namedPageSize l k) ≡ Texels c → AllExact (named l k .frame) (namedPageSize l k) c
+      go : (r : Request) → insetNought r ≡ true → wanted r (recordNamed l k .frame) (namedPageSize l k) ≡ Texels c → AllExact (recordNamed l k .frame) (namedPageSize l k) c
       go AskPixels y w = absurd (not-both y refl)
       go Edges y w =
-          let p : corners (named l k .frame) (namedPageSize l k) nought ≡ c = cc in
-          subst (AllExact (named l k .frame) (namedPageSize l k)) p (corners-exact (named l k .frame) (namedPageSize l k) small nought tt)
+          let p : corners (recordNamed l k .frame) (namedPageSize l k) nought ≡ c = cc in
+          subst (AllExact (recordNamed l k .frame) (namedPageSize l k)) p (corners-exact (recordNamed l k .frame) (namedPageSize l k) small nought tt)
       go (Inset i) y w =
-          let p : corners (named l k .frame) (namedPageSize l k) i ≡ c = cc in
-          subst (AllExact (named l k .frame) (namedPageSize l k)) p (corners-exact (named l k .frame) (namedPageSize l k) small i (truth y))
+          let p : corners (recordNamed l k .frame) (namedPageSize l k) i ≡ c = cc in
+          subst (AllExact (recordNamed l k .frame) (namedPageSize l k)) p (corners-exact (recordNamed l k .frame) (namedPageSize l k) small i (truth y))
 
 -- an inset of 0, of either sign, answers as edges do
 pub zero-as-edges : (l : Layout) (k : Key) (i : Float) → eq i nought ≡ true → located l k (Inset i) ≡ located l k Edges
@@ -178,18 +178,18 @@ zero-as-edges l k i z = start (wellFormed l) refl (any (hasKey k) (standing l)) 
     b : between i ≡ true
     b = zero-between i (truth z)
 
-    onward : wellFormed l ≡ true → any (hasKey k) (standing l) ≡ true → (p : Bool) → pastEdge (named l k .frame) (namedPageSize l k) ≡ p → located l k (Inset i) ≡ located l k Edges
+    onward : wellFormed l ≡ true → any (hasKey k) (standing l) ≡ true → (p : Bool) → pastEdge (recordNamed l k .frame) (namedPageSize l k) ≡ p → located l k (Inset i) ≡ located l k Edges
     onward e t true p = locate-16 l k (Inset i) .1 (e, t, ap not b, p) ∙ sym (locate-16 l k Edges .1 (e, t, refl, p))
     onward e t false p =
         let s = sides l k e t p in
         inset-are l k e t p i b
-        ∙ ap Texels (zero-corners (named l k .frame) (namedPageSize l k) (countable l k e t) (s .wide) (s .tall) i (truth z))
+        ∙ ap Texels (zero-corners (recordNamed l k .frame) (namedPageSize l k) (countable l k e t) (s .wide) (s .tall) i (truth z))
         ∙ sym (edges-are l k e t p)
 
     start : (w : Bool) → wellFormed l ≡ w → (a : Bool) → any (hasKey k) (standing l) ≡ a → located l k (Inset i) ≡ located l k Edges
     start false e a t = locate-2 l k (Inset i) .1 e ∙ sym (locate-2 l k Edges .1 e)
     start true e false t = locate-15 l k (Inset i) .1 (e, t) ∙ sym (locate-15 l k Edges .1 (e, t))
-    start true e true t = onward e t (pastEdge (named l k .frame) (namedPageSize l k)) refl
+    start true e true t = onward e t (pastEdge (recordNamed l k .frame) (namedPageSize l k)) refl
 
 -- the four numbers are numbers, so that each has one bit pattern
 pub never-nan : (l : Layout) (k : Key) (q : Request) (c : Corners) → located l k q ≡ Texels c → AreNumbers c
@@ -198,16 +198,16 @@ never-nan l k q c e = go q refl (texels-of l k q e .1)
     at : Passed l k q
     at = passed-row l k q (texels-of l k q e .0)
 
-    numbers : (i : Float) → finite i ≡ true → pastEdge (named l k .frame) (namedPageSize l k) ≡ false → corners (named l k .frame) (namedPageSize l k) i ≡ c → AreNumbers c
+    numbers : (i : Float) → finite i ≡ true → pastEdge (recordNamed l k .frame) (namedPageSize l k) ≡ false → corners (recordNamed l k .frame) (namedPageSize l k) i ≡ c → AreNumbers c
     numbers i f p d =
         let s = sides l k (at .formed) (at .stands) p in
-        subst AreNumbers d (corners-numbers (named l k .frame) (namedPageSize l k) (countable l k (at .formed) (at .stands)) (s .wide) (s .tall) i f)
+        subst AreNumbers d (corners-numbers (recordNamed l k .frame) (namedPageSize l k) (countable l k (at .formed) (at .stands)) (s .wide) (s .tall) i f)
 
-    go : (r : Request) → q ≡ r → wanted r (named l k .frame) (namedPageSize l k) ≡ Texels c → AreNumbers c
+    go : (r : Request) → q ≡ r → wanted r (recordNamed l k .frame) (namedPageSize l k) ≡ Texels c → AreNumbers c
     go AskPixels y w = let z : _≡_ {A = ℕ} 0 1 = cc in absurd (omega arith)
-    go Edges y w = numbers nought refl (sym (ap (λ (r : Request). outOfPage r (named l k .frame) (namedPageSize l k)) y) ∙ at .page) (cc)
+    go Edges y w = numbers nought refl (sym (ap (λ (r : Request). outOfPage r (recordNamed l k .frame) (namedPageSize l k)) y) ∙ at .page) (cc)
     go (Inset i) y w =
-        numbers i (between-finite i (not-false _ (sym (ap badInset y) ∙ at .inset))) (sym (ap (λ (r : Request). outOfPage r (named l k .frame) (namedPageSize l k)) y) ∙ at .page) (cc)
+        numbers i (between-finite i (not-false _ (sym (ap badInset y) ∙ at .inset))) (sym (ap (λ (r : Request). outOfPage r (recordNamed l k .frame) (namedPageSize l k)) y) ∙ at .page) (cc)
 
 -- ## "Where an answer is an enum, a definition gives this paper's number and values for each of its cases."
 

@@ -7,14 +7,12 @@ use mathlib.Core.Option.{Option, none, some}
 use lib.Dec.{ltb}
 use lib.IntN.{pos, negsuc}
 use lib.Ieee.{Float, fin, binary32, add, sub, div, le, ofInt, toBits}
-use Rattle.geometry.specs.Words.{any, orElse}
+use Rattle.geometry.specs.Words.{any}
 use Rattle.geometry.specs.declared.rect.Rect.{Rect}
 use Rattle.geometry.specs.declared.rect.Size.{Size}
 use Rattle.records.specs.Refusals.{numberOf, Row, firstOf}
-use Rattle.records.specs.Settings.{blankRecord}
-use Rattle.records.specs.Layouts.{standing, wellFormed, hasKey, recordOf, sizeOfPage}
+use Rattle.records.specs.Layouts.{standing, wellFormed, hasKey, sizeOfPage, recordNamed}
 use Rattle.records.specs.declared.frame.Key.{Key}
-use Rattle.records.specs.declared.frame.Record.{Record}
 use Rattle.records.specs.declared.layout.Layout.{Layout}
 use Rattle.records.specs.declared.refusal.Refusal.{Refusal}
 use Rattle.records.specs.declared.refusal.Refusal.the-variants.{NotWellFormed, NoSuchKey, BadInset, PastPage}
@@ -55,13 +53,9 @@ corners f s i =
 
 -- ## coordinates: 2 15 17 16
 
--- the record that a key names, where there is one
-unfoldable pub named : Layout → Key → Record
-named l k = orElse (recordOf l k) blankRecord
-
--- its page's size
+-- the size of the page that the named record is on
 unfoldable pub namedPageSize : Layout → Key → Size
-namedPageSize l k = sizeOfPage l (named l k .page)
+namedPageSize l k = sizeOfPage l (recordNamed l k .page)
 
 -- between 0 and 0.5: either end is, a NaN is not
 unfoldable pub between : Float → Bool
@@ -87,7 +81,7 @@ locateRow l k q =
     (not (wellFormed l), NotWellFormed)
     ∷ (not (any (hasKey k) (standing l)), NoSuchKey)
     ∷ (badInset q, BadInset)
-    ∷ (outOfPage q (named l k .frame) (namedPageSize l k), PastPage)
+    ∷ (outOfPage q (recordNamed l k .frame) (namedPageSize l k), PastPage)
     ∷ []
 
 unfoldable pub locateRefusal : Layout → Key → Request → Option Refusal
@@ -104,7 +98,7 @@ locateAnswer a none = a
 locateAnswer a (some r) = Refused r
 
 unfoldable pub located : Layout → Key → Request → Located
-located l k q = locateAnswer (wanted q (named l k .frame) (namedPageSize l k)) (locateRefusal l k q)
+located l k q = locateAnswer (wanted q (recordNamed l k .frame) (namedPageSize l k)) (locateRefusal l k q)
 
 -- the four numbers by their bits
 abbrev pub locatedNumbers : Located → List ℕ
