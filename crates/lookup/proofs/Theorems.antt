@@ -116,7 +116,7 @@ module _ (l : Layout) (p : Page) (x y : ℕ) where
   -- what it shows is what that frame gives it
   pub shows : (s : Stores) (k : Pixel) → looked l s p x y ≡ Shows k
       ↔ ((lookRefusal l s p ≡ none) × ((i : ℕ) × Owns i × (k ≡ framePixel (l .config) s (standingAt l i) x y)))
-  shows s k = (to, from')
+  shows s k = (to, back)
     where
       to : looked l s p x y ≡ Shows k → (lookRefusal l s p ≡ none) × ((i : ℕ) × Owns i × (k ≡ framePixel (l .config) s (standingAt l i) x y))
       to e = let f = found-looked l s p x y k e in (f .0, go (f .1) (look (reaches (l .config) p x y) blankRecord (standing l)))
@@ -131,8 +131,8 @@ module _ (l : Layout) (p : Page) (x y : ℕ) where
               never : some k ≡ none → ⊥
               never w = let z : _≡_ {A = ℕ} 0 1 = cc in omega arith
 
-      from' : (lookRefusal l s p ≡ none) × ((i : ℕ) × Owns i × (k ≡ framePixel (l .config) s (standingAt l i) x y)) → looked l s p x y ≡ Shows k
-      from' h =
+      back : (lookRefusal l s p ≡ none) × ((i : ℕ) × Owns i × (k ≡ framePixel (l .config) s (standingAt l i) x y)) → looked l s p x y ≡ Shows k
+      back h =
           sym (looked-found l s p x y (h .0))
           ∙ ap (λ (o : Option Pixel). lookAnswer o none) (owned s (h .1 .0) (h .1 .1))
           ∙ ap Shows (sym (h .1 .2))

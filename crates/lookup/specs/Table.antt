@@ -5,10 +5,8 @@ use Prim.Native.Nat.{ℕ}
 use mathlib.Core.Bool.{Bool, true, false}
 use mathlib.Core.List.{List, [], _∷_, _++_}
 use Rattle.geometry.specs.declared.spot.Turn.the-variants.{Upright, Turned}
-use Rattle.art.specs.Stores.{Stores}
 use Rattle.art.specs.declared.memory_rgba8_texture.Store.the-variants.{Symbols, Wording}
 use Rattle.records.specs.Samples.{settings, limits, rect, source, made, laid}
-use Rattle.records.specs.declared.texture_packer_config.Config.{Config}
 use Rattle.records.specs.declared.frame.Record.{Record}
 use Rattle.records.specs.declared.layout.Layout.{Layout}
 use Rattle.lookup.specs.TableWords.{Line, counting, standingIn, whole, at, across, shown, outlined, nothing, refused, row, handed, refusedRow}
@@ -112,7 +110,7 @@ outlineLines =
     ∷ (across (framed true) (counting 36 0) 0 4 6, shown 24 ∷ outlined ∷ shown 28 ∷ outlined ∷ shown 32 ∷ nothing ∷ [])
     ∷ (across (framed true) (counting 36 0) 0 5 2, nothing ∷ nothing ∷ [])
     ∷ (across (framed false) (counting 36 0) 0 1 6, shown 0 ∷ shown 0 ∷ shown 4 ∷ shown 8 ∷ shown 8 ∷ nothing ∷ [])
-    -- an outline is red also where the store is too short for the image: no, that is 5
+    -- 5 comes first, also where the pixel would be red
     ∷ (at (framed true) (counting 35 0) 0 1 1 ∷ [], refused 5 ∷ [])
     ∷ []
 

@@ -1,11 +1,10 @@
 -- Words of the computed table: stores whose bytes count, layouts of a few records, and what is answered for each pixel and row.
 -- Assumes nothing.
 use Prim.Native.Nat.{ℕ}
-use mathlib.Core.Bool.{Bool, false}
-use mathlib.Core.List.{List, [], _∷_, _++_, map}
+use mathlib.Core.Bool.{false}
+use mathlib.Core.List.{List, [], _∷_, map}
 use lib.ListN.{length}
 use Rattle.geometry.specs.Words.{from}
-use Rattle.geometry.specs.declared.rect.Rect.{Rect}
 use Rattle.geometry.specs.declared.spot.Turn.the-variants.{Upright}
 use Rattle.art.specs.Stores.{Stores, lent}
 use Rattle.art.specs.declared.memory_rgba8_texture.Store.{Store}
