@@ -1,5 +1,4 @@
--- Example 8 of document 01, the trim box of its example 6, and lines of our own that tell wrong readings apart: beside each computed list
--- stands what it must be.
+-- Lines of our own that tell wrong readings of pixels and trim boxes apart: beside each computed list stands what it must be.
 -- Assumes nothing.
 use Prim.Native.Nat.{ℕ, zero, suc, _^_}
 use mathlib.Core.Bool.{Bool, true, false, cond}
@@ -7,7 +6,7 @@ use mathlib.Core.List.{List, [], _∷_, _++_, map}
 use lib.ListN.{replicate}
 use Rattle.geometry.specs.Words.{from}
 use Rattle.geometry.specs.declared.rect.Rect.{Rect}
-use Rattle.art.specs.Stores.{Stores, lent, runsPast, pixelIn, uprightPixel, turnedPoint, turnedPixel}
+use Rattle.art.specs.Stores.{Stores, lent, runsPast, pixelIn, uprightPixel, turnedPixel}
 use Rattle.art.specs.Trimming.{trimBox, trimmedTo, trimmedNumbers}
 use Rattle.art.specs.declared.memory_rgba8_texture.Image.{Image}
 use Rattle.art.specs.declared.memory_rgba8_texture.Pixel.{Pixel}
@@ -33,9 +32,6 @@ numbers k = k .x ∷ k .y ∷ k .w ∷ k .h ∷ []
 unfoldable pub oneIf : Bool → List ℕ
 oneIf b = cond b (1 ∷ []) (0 ∷ [])
 
-unfoldable pub point : ℕ × ℕ → List ℕ
-point p = p .0 ∷ p .1 ∷ []
-
 -- n pixels of no alpha, in white, and a black one that can be seen
 unfoldable pub clear : ℕ → List ℕ
 clear zero = []
@@ -55,13 +51,11 @@ trims bytes w h = trimmedNumbers (trimmedTo (lent bytes []) (image Symbols 0 w h
 unfoldable pub turnedReds : ℕ → List ℕ
 turnedReds y = map (λ x. turnedPixel counting (image Symbols 0 2 3) (rect 0 0 2 3) x y .r) (from 0 3)
 
--- example 8: 2 wide, 3 high, turned
+-- 2 wide, 3 high, turned
 unfoldable pub turnedLines : List Line
 turnedLines =
-    (point (turnedPoint (rect 0 0 2 3) 0 0), 0 ∷ 2 ∷ [])
-    ∷ (point (turnedPoint (rect 0 0 2 3) 2 1), 1 ∷ 0 ∷ [])
     -- the frame's rows, of three pixels each, by the red of what they read: the image's red is 0 4, 8 12, 16 20
-    ∷ (turnedReds 0 ++ turnedReds 1, 16 ∷ 8 ∷ 0 ∷ 20 ∷ 12 ∷ 4 ∷ [])
+    (turnedReds 0 ++ turnedReds 1, 16 ∷ 8 ∷ 0 ∷ 20 ∷ 12 ∷ 4 ∷ [])
     ∷ []
 
 -- pixels of an image, of a box in it, and of that box turned
@@ -92,10 +86,8 @@ pastLines =
 
 unfoldable pub trimLines : List Line
 trimLines =
-    -- example 6: an 8x8 with only (3, 5) visible
-    (trims (clear 43 ++ shown 255 ++ clear 20) 8 8, 0 ∷ 3 ∷ 5 ∷ 1 ∷ 1 ∷ [])
     -- alpha 1 is seen as 255 is; colour without alpha is not
-    ∷ (trims (clear 43 ++ shown 1 ++ clear 20) 8 8, 0 ∷ 3 ∷ 5 ∷ 1 ∷ 1 ∷ [])
+    (trims (clear 43 ++ shown 1 ++ clear 20) 8 8, 0 ∷ 3 ∷ 5 ∷ 1 ∷ 1 ∷ [])
     ∷ (trims (clear 6) 2 3, 7 ∷ [])
     -- the first pixel, the last, and both
     ∷ (trims (shown 255 ++ clear 5) 3 2, 0 ∷ 0 ∷ 0 ∷ 1 ∷ 1 ∷ [])

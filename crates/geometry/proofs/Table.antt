@@ -17,7 +17,7 @@ pub table-holds : map computed table ≡ map (λ l. l .places) table
 unfolding rules
 table-holds = refl
 
-pub table-lines : length table ≡ 16
+pub table-lines : length table ≡ 9
 table-lines = refl
 
 pub points-hold : allOf points ≡ true

@@ -2,7 +2,7 @@
 -- less than document 01's maxima. Assumes nothing.
 use Prim.Native.Nat.{ℕ}
 use mathlib.Core.Bool.{Bool, true, false, not}
-use mathlib.Core.List.{List, [], _∷_, _++_, map}
+use mathlib.Core.List.{List, [], _∷_, map}
 use Rattle.geometry.specs.Placing.{packed, turnNumber}
 use Rattle.geometry.specs.Rects.{holdsPoint, holdsRect, onOutline}
 use Rattle.geometry.specs.declared.rect.Rect.{Rect}
@@ -37,26 +37,9 @@ placeOf (At k) = at (k .at .x) (k .at .y) (k .at .w) (k .at .h) (turnNumber (k .
 unfoldable pub computed : Line → List (List ℕ)
 computed l = map placeOf (packed (l .area) (l .rotation) [] (l .cells))
 
--- document 01, examples 1 to 4
-abbrev examples : List Line
-examples =
-    line (size 8 8) false (size 4 3 ∷ size 4 2 ∷ size 4 2 ∷ size 8 4 ∷ size 1 1 ∷ [])
-    (at 0 0 4 3 0 ∷ at 4 0 4 2 0 ∷ at 4 2 4 2 0 ∷ at 0 4 8 4 0 ∷ nowhere ∷ [])
-    ∷ line (size 9 7) false (size 4 1 ∷ size 2 3 ∷ size 3 1 ∷ size 1 1 ∷ [])
-    (at 0 0 4 1 0 ∷ at 4 0 2 3 0 ∷ at 6 0 3 1 0 ∷ at 6 1 1 1 0 ∷ [])
-    ∷ line (size 10 7) false (size 4 1 ∷ size 2 3 ∷ size 4 1 ∷ size 1 1 ∷ [])
-    (at 0 0 4 1 0 ∷ at 4 0 2 3 0 ∷ at 6 0 4 1 0 ∷ at 0 1 1 1 0 ∷ [])
-    ∷ line (size 8 7) true (size 2 6 ∷ []) (at 0 0 6 2 1 ∷ [])
-    ∷ line (size 8 7) true (size 3 3 ∷ []) (at 0 0 3 3 0 ∷ [])
-    ∷ line (size 8 8) false (size 8 8 ∷ []) (at 0 0 8 8 0 ∷ [])
-    ∷ line (size 8 8) false (size 9 3 ∷ []) (nowhere ∷ [])
-    ∷ line (size 8 7) false (size 8 7 ∷ []) (at 0 0 8 7 0 ∷ [])
-    ∷ line (size 8 7) false (size 8 8 ∷ []) (nowhere ∷ [])
-    ∷ []
-
 -- lines of our own, each against a wrong reading
-abbrev guards : List Line
-guards =
+abbrev pub table : List Line
+table =
     -- lower start comes before upright
     line (size 2 2) true (size 1 1 ∷ size 1 2 ∷ []) (at 0 0 1 1 0 ∷ at 0 1 2 1 1 ∷ [])
     -- and so does the narrower segment
@@ -71,10 +54,13 @@ guards =
     ∷ line (size 8 3) false (size 2 8 ∷ []) (nowhere ∷ [])
     -- nothing fits an area of no rows
     ∷ line (size 8 0) true (size 1 1 ∷ []) (nowhere ∷ [])
+    -- the row where a cell stands counts against the area's height
+    ∷ line (size 3 4) false (size 1 2 ∷ size 2 1 ∷ size 3 1 ∷ size 1 1 ∷ size 1 1 ∷ size 3 1 ∷ [])
+    (at 0 0 1 2 0 ∷ at 1 0 2 1 0 ∷ at 0 2 3 1 0 ∷ at 0 3 1 1 0 ∷ at 1 3 1 1 0 ∷ nowhere ∷ [])
+    -- a column higher than its left neighbour is a start too, and ends a segment
+    ∷ line (size 5 3) false (size 2 1 ∷ size 1 2 ∷ size 2 1 ∷ size 1 1 ∷ [])
+    (at 0 0 2 1 0 ∷ at 2 0 1 2 0 ∷ at 3 0 2 1 0 ∷ at 0 1 1 1 0 ∷ [])
     ∷ []
-
-abbrev pub table : List Line
-table = examples ++ guards
 
 -- the points of a rectangle of 3 columns by 2 rows at (1, 1), and those of its outline, which goes on outside it
 abbrev pane : Rect

@@ -10,17 +10,17 @@ use Rattle.records.specs.Records.{allZero, isBlank, sizeOf, wholeOf, box
 use Rattle.records.specs.Layouts.{standing, unused, wellFormed, hasKey, recordOf, keyPlace, onPage, pageCount, endsOf, sizeOfPage}
 use Rattle.records.specs.Operations.{openRow, openRefusal, opened, noSuchPage, sizeRow, sizeRefusal, pageSized}
 use Rattle.records.specs.Samples.{bit, settings, limits, rect, source, made, laid, recordNumbers, configNumbers, layoutNumbers, openingNumbers}
-use Rattle.records.specs.Table.{Line, passes, fails, boundLines, openLines, blankLines, strict, stands, ok, recordLines, boxNumbers, sizeNumbers, imageNumbers, lies, artLines, good, bad, rest, full, formedLines, named, keyed, foundAt, keyLines, onPages, sizeOn, paged, fifth, furthest, pageLines, table}
+use Rattle.records.specs.Table.{Line, passes, fails, boundLines, openLines, blankLines, strict, stands, ok, recordLines, boxNumbers, sizeNumbers, imageNumbers, lies, artLines, good, bad, rest, full, formedLines, named, keyed, foundAt, keyLines, onPages, sizeOn, paged, overrun, furthest, pageLines, table}
 
 -- every rule, open
 rules : Unit {0}
-unfolding from allOf all only earliest greatest flat lying firstOf inBounds blankConfig blankRecord emptyLayout allZero isBlank sizeOf wholeOf boxOf imageOf liesIn boxInside recordWellFormed standing unused wellFormed hasKey recordOf keyPlace onPage pageCount endsOf sizeOfPage openRow openRefusal opened noSuchPage sizeRow sizeRefusal pageSized bit passes fails settings limits rect source made laid recordNumbers configNumbers layoutNumbers openingNumbers boundLines openLines blankLines strict stands ok recordLines boxNumbers sizeNumbers imageNumbers lies artLines good bad rest full formedLines named keyed foundAt keyLines onPages sizeOn paged fifth furthest pageLines table
+unfolding from allOf all only earliest greatest flat lying firstOf inBounds blankConfig blankRecord emptyLayout allZero isBlank sizeOf wholeOf boxOf imageOf liesIn boxInside recordWellFormed standing unused wellFormed hasKey recordOf keyPlace onPage pageCount endsOf sizeOfPage openRow openRefusal opened noSuchPage sizeRow sizeRefusal pageSized bit passes fails settings limits rect source made laid recordNumbers configNumbers layoutNumbers openingNumbers boundLines openLines blankLines strict stands ok recordLines boxNumbers sizeNumbers imageNumbers lies artLines good bad rest full formedLines named keyed foundAt keyLines onPages sizeOn paged overrun furthest pageLines table
 rules = tt
 
 pub table-holds : map (λ (l : Line). l .0) table ≡ map (λ (l : Line). l .1) table
 unfolding rules
 table-holds = refl
 
-pub table-lines : length table ≡ 99
+pub table-lines : length table ≡ 97
 unfolding rules
 table-lines = refl

@@ -1,5 +1,4 @@
--- Lines of our own against wrong readings of what a layout holds, with the parts of examples 5 and 11 of document 01 that are about
--- page size: beside each computed list stands what it must be.
+-- Lines of our own against wrong readings of what a layout holds: beside each computed list stands what it must be.
 -- Assumes nothing.
 use Prim.Native.Nat.{ℕ}
 use mathlib.Core.Bool.{Bool, true, false}
@@ -242,9 +241,9 @@ paged forced =
     ∷ stands 0 (rect 5 1 2 3) (source 0 0 2 3)
     ∷ [])
 
--- example 5: 8x9, b=2, 8x8 at (2,2)
-unfoldable pub fifth : Bool → Layout
-fifth forced = laid (settings 8 9 0 2 0 1 1 false false false forced) 1 (stands 0 (rect 2 2 8 8) (source 0 0 8 8) ∷ [])
+-- forced, and the frame ends past the maxima
+unfoldable pub overrun : Layout
+overrun = laid (settings 4 5 0 2 0 1 1 false false false true) 1 (stands 0 (rect 2 2 4 4) (source 0 0 4 4) ∷ [])
 
 -- as far right and as far down as a frame can end
 unfoldable pub furthest : Layout
@@ -263,14 +262,11 @@ pageLines =
     ∷ (sizeOn (paged false) 1, 0 ∷ 0 ∷ 0 ∷ [])
     -- page not below the page count, though it is below the page limit
     ∷ (sizeOn (paged false) 3, 11 ∷ [])
-    -- forced
+    -- forced, also where a frame ends past the maxima
     ∷ (sizeOn (paged true) 0, 0 ∷ 32 ∷ 30 ∷ [])
     ∷ (sizeOn (paged true) 1, 0 ∷ 32 ∷ 30 ∷ [])
     ∷ (sizeOn (paged true) 3, 11 ∷ [])
-    -- examples 5 and 11
-    ∷ (sizeOn (fifth false) 0, 0 ∷ 12 ∷ 12 ∷ [])
-    ∷ (sizeOn (fifth true) 0, 0 ∷ 8 ∷ 9 ∷ [])
-    ∷ (sizeOn (laid (limits 8 9 0 0 0 1 1) 0 []) 0, 11 ∷ [])
+    ∷ (sizeOn overrun 0, 0 ∷ 4 ∷ 5 ∷ [])
     -- not well-formed, asked before the page
     ∷ (sizeOn (laid (strict false) 1 (bad ∷ [])) 0, 2 ∷ [])
     ∷ (sizeOn (laid (strict false) 1 (bad ∷ [])) 9, 2 ∷ [])

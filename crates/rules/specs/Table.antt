@@ -1,5 +1,5 @@
--- The computed table of open, ask, offer, withdraw and page size: document 01's examples 1 to 6 and 11, and lines of our own, each against a
--- wrong reading. Beside what is computed stands what it must be: the number and the values of each answer. Maxima in front, as there.
+-- The computed table of open, ask, offer and withdraw: lines of our own, each against a wrong reading. Beside what is computed stands what
+-- it must be: the number and the values of each answer. Maxima in front, as in document 01.
 -- Assumes nothing.
 use Prim.Native.Nat.{ℕ}
 use mathlib.Core.Bool.{true, false}
@@ -10,49 +10,7 @@ use Rattle.art.specs.Stores.{Stores, lent}
 use Rattle.art.specs.declared.memory_rgba8_texture.Store.the-variants.{Symbols, Wording}
 use Rattle.records.specs.declared.texture_packer_config.Config.{Config}
 use Rattle.rules.specs.Story.{filled, Call, Offer, Withdraw}
-use Rattle.rules.specs.TableWords.{Line, config, plain, padded, bordered, extruded, limited, rotating, trimming, key, image, white, clear, shown, symbols, dot, speck, offerOf, offer, ask, answer, answers, opens, pageAfter, at, turnedAt, itFits, itDoesNot, goneKey, sides, refused, made, whole, recordNumbers, placesAfter, recordAfter, each, isFaithful, allRefused}
-
--- ## document 01's examples
-
-unfoldable pub one : List Call
-one = offer 0 4 3 ∷ offer 1 4 2 ∷ offer 2 4 2 ∷ offer 3 8 4 ∷ offer 4 1 1 ∷ []
-
-unfoldable pub examples : List Line
-examples =
-    -- 1
-    (answers (plain 8 9) one, at 0 0 0 4 3 ∷ at 0 4 0 4 2 ∷ at 0 4 2 4 2 ∷ at 0 0 4 8 4 ∷ at 1 0 0 1 1 ∷ [])
-    ∷ (answers (limited 8 9 1 256) one, at 0 0 0 4 3 ∷ at 0 4 0 4 2 ∷ at 0 4 2 4 2 ∷ at 0 0 4 8 4 ∷ refused 10 ∷ [])
-    -- 2
-    ∷ (
-      answers (plain 9 8) (offer 0 4 1 ∷ offer 1 2 3 ∷ offer 2 3 1 ∷ offer 3 1 1 ∷ []),
-      at 0 0 0 4 1 ∷ at 0 4 0 2 3 ∷ at 0 6 0 3 1 ∷ at 0 6 1 1 1 ∷ [],
-    )
-    ∷ (
-      answers (plain 10 8) (offer 0 4 1 ∷ offer 1 2 3 ∷ offer 2 4 1 ∷ offer 3 1 1 ∷ []),
-      at 0 0 0 4 1 ∷ at 0 4 0 2 3 ∷ at 0 6 0 4 1 ∷ at 0 0 1 1 1 ∷ [],
-    )
-    -- 3
-    ∷ (answers (rotating 8 8) (offer 0 2 6 ∷ []), turnedAt 0 0 0 6 2 ∷ [])
-    ∷ (answers (rotating 8 8) (offer 0 3 3 ∷ []), at 0 0 0 3 3 ∷ [])
-    -- 4
-    ∷ (answers (padded 8 9 2) (offer 0 6 6 ∷ []), at 0 0 0 6 6 ∷ [])
-    ∷ (answers (padded 8 9 2) (offer 0 7 1 ∷ []), refused 8 ∷ [])
-    ∷ (answers (extruded 8 9 1) (offer 0 6 6 ∷ []), at 0 0 0 6 6 ∷ [])
-    ∷ (answers (padded 8 8 2) (offer 0 6 5 ∷ []), at 0 0 0 6 5 ∷ [])
-    ∷ (answers (padded 8 8 2) (offer 0 6 6 ∷ []), refused 8 ∷ [])
-    -- 5
-    ∷ (answers (bordered 8 9 2 false) (offer 0 8 8 ∷ []), at 0 2 2 8 8 ∷ [])
-    ∷ (pageAfter (bordered 8 9 2 false) (offer 0 8 8 ∷ []) 0, sides 12 12 ∷ [])
-    ∷ (pageAfter (bordered 8 9 2 true) (offer 0 8 8 ∷ []) 0, sides 8 9 ∷ [])
-    -- 6
-    ∷ (answers (trimming 8 9) (offerOf dot 0 8 8 ∷ offerOf dot 1 8 8 ∷ []), at 0 0 0 1 1 ∷ at 1 0 0 1 1 ∷ [])
-    ∷ (recordAfter (trimming 8 9) (offerOf dot 0 8 8 ∷ []) 0, recordNumbers (made 0 0 0 0 1 1 Upright true 3 5 8 8) ∷ [])
-    -- 11
-    ∷ (answers (plain 8 9) (Withdraw ∷ []), refused 18 ∷ [])
-    ∷ (pageAfter (plain 8 9) [] 0, refused 11 ∷ [])
-    ∷ []
-
--- ## lines of our own, each against a wrong reading
+use Rattle.rules.specs.TableWords.{Line, config, plain, padded, bordered, limited, rotating, trimming, key, image, white, clear, shown, symbols, speck, offerOf, offer, ask, answer, answers, opens, at, turnedAt, itFits, itDoesNot, goneKey, refused, made, whole, recordNumbers, placesAfter, recordAfter, each, isFaithful, allRefused}
 
 -- placing over pages
 unfoldable pub placing : List Line
@@ -81,6 +39,10 @@ tooLargeLines =
     ∷ (answers (plain 4 3) (offer 0 2 4 ∷ []), refused 8 ∷ [])
     ∷ (answers (plain 4 5) (offer 0 4 5 ∷ offer 0 5 1 ∷ offer 0 4 4 ∷ []), refused 8 ∷ refused 8 ∷ at 0 0 0 4 4 ∷ [])
     ∷ (answers (plain 8 1) (offer 0 1 1 ∷ []), refused 8 ∷ [])
+    -- p and 2e are added up, and count at the right and at the lower edge too
+    ∷ (answers (config 8 9 1 0 1 8 256 false false false) (offer 0 6 1 ∷ offer 0 1 6 ∷ offer 0 5 5 ∷ []), refused 8 ∷ refused 8 ∷ at 0 0 0 5 5 ∷ [])
+    -- neither a border nor a forced size changes anything of the canvas
+    ∷ (answers (bordered 4 5 2 true) (offer 0 4 5 ∷ offer 0 4 4 ∷ []), refused 8 ∷ at 0 2 2 4 4 ∷ [])
     ∷ (answers (trimming 2 3) (offerOf speck 0 4 4 ∷ []), at 0 0 0 1 1 ∷ [])
     ∷ []
 
@@ -110,9 +72,7 @@ trimLines =
     -- turned, the record's box is swapped back: the layout stays well-formed and faithful
     ∷ (answers rotatingTrimming (offerOf column 0 4 4 ∷ offerOf column 1 4 4 ∷ []), turnedAt 0 0 0 3 1 ∷ turnedAt 0 3 0 3 1 ∷ [])
     ∷ (recordAfter rotatingTrimming (offerOf column 0 4 4 ∷ []) 0, recordNumbers (made 0 0 0 0 3 1 Turned true 1 0 4 4) ∷ [])
-    -- all clear: 7 with trim, and no page is opened; placed without
-    ∷ (answers (trimming 3 4) (unseen ∷ []), refused 7 ∷ [])
-    ∷ (pageAfter (trimming 3 4) (unseen ∷ []) 0, refused 11 ∷ [])
+    -- all clear, and placed without trim
     ∷ (answers (plain 3 4) (unseen ∷ []), at 0 0 0 2 2 ∷ [])
     ∷ (recordAfter (plain 3 4) (unseen ∷ []) 0, recordNumbers (whole 0 0 0 0 2 2) ∷ [])
     ∷ []
@@ -274,4 +234,4 @@ faithfulLines =
     ∷ []
 
 unfoldable pub table : List Line
-table = examples ++ placing ++ tooLargeLines ++ trimLines ++ orderLines ++ askLines ++ withdrawLines ++ faithfulLines
+table = placing ++ tooLargeLines ++ trimLines ++ orderLines ++ askLines ++ withdrawLines ++ faithfulLines
