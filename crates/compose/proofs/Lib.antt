@@ -1,3 +1,4 @@
 pub mod Comparing
 pub mod Answers
 pub mod Agreeing
+pub mod Table
