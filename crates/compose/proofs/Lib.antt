@@ -2,3 +2,4 @@ pub mod Comparing
 pub mod Answers
 pub mod Agreeing
 pub mod Theorems
+pub mod Table

@@ -1,3 +1,5 @@
 pub mod Composing
 pub mod Checking
 pub mod Comparing
+pub mod TableWords
+pub mod Table

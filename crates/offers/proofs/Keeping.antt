@@ -21,7 +21,7 @@ use Rattle.records.specs.declared.texture_packer_config.Config.{Config}
 use Rattle.rules.specs.Placing.{canvas, cellSize}
 use Rattle.rules.specs.Operations.{badSize, fitsEmpty, tooLarge}
 use Rattle.rules.proofs.Accepted.{size-in}
-use Rattle.replay.specs.Replay.{Sized}
+use Rattle.faithful.specs.Replay.{Sized}
 use Rattle.offers.specs.Offers.{keptOf}
 
 -- ## sizes

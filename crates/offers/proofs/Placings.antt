@@ -21,14 +21,14 @@ use Rattle.records.specs.Settings.{inBounds}
 use Rattle.records.specs.Records.{sizeOf}
 use Rattle.records.proofs.Checks.{bounded}
 use Rattle.rules.specs.Placing.{canvas, cellSize, spotOn, cellOf, cellsOn, pageFor, recordAt, recordFor, placed}
-use Rattle.replay.specs.Replay.{Near, stood}
+use Rattle.faithful.specs.Replay.{Near, stood}
 use Rattle.offers.specs.Offers.{outcome, Stepped}
 use Rattle.rules.specs.declared.placing.Art.{Art}
-use Rattle.replay.specs.declared.placing.Outcome.{Outcome}
-use Rattle.replay.specs.declared.placing.Outcome.the-variants.{Full, Stood}
+use Rattle.faithful.specs.declared.placing.Outcome.{Outcome}
+use Rattle.faithful.specs.declared.placing.Outcome.the-variants.{Full, Stood}
 use Rattle.rules.proofs.Pages.{cells-here, cells-other, cell-given}
-use Rattle.replay.proofs.Replays.{length-snoc}
-use Rattle.replay.proofs.Spots.{stood-none}
+use Rattle.faithful.proofs.Replays.{length-snoc}
+use Rattle.faithful.proofs.Spots.{stood-none}
 
 pub near : (c : Config) (cells : List Rect) (size area cell : Size) (f : Found) → inBounds c ≡ true → area ≡ canvas c → f ≡ spotFor (height cells) area (c .rotation) cell → Near f
 unfolding canvas

@@ -30,8 +30,8 @@ use Rattle.rules.specs.declared.placing.Art.{Art}
 use Rattle.rules.specs.declared.multi_texture_packer.Offered.the-variants.{Placed, Refused as OfferRefused}
 use Rattle.rules.specs.declared.multi_texture_packer.Offering.{Offering}
 use Rattle.rules.proofs.Pages.{page-le}
-use Rattle.replay.specs.Replay.{stood}
-use Rattle.replay.specs.declared.placing.Outcome.the-variants.{Full}
+use Rattle.faithful.specs.Replay.{stood}
+use Rattle.faithful.specs.declared.placing.Outcome.the-variants.{Full}
 use Rattle.offers.specs.Offers.{outcome, roomRest, offerRest}
 
 -- ## offer, past 7

@@ -24,9 +24,9 @@ use Rattle.records.specs.declared.layout.Layout.{Layout}
 use Rattle.rules.specs.Placing.{canvas, cellsOn, pageFor, placed}
 use Rattle.rules.specs.Operations.{badSize, artFor, tooLarge, pagesFull}
 use Rattle.rules.specs.declared.placing.Art.{Art}
-use Rattle.replay.specs.Replay.{stood}
-use Rattle.replay.specs.declared.placing.Outcome.{Outcome}
-use Rattle.replay.specs.declared.placing.Outcome.the-variants.{Full, Stood}
+use Rattle.faithful.specs.Replay.{stood}
+use Rattle.faithful.specs.declared.placing.Outcome.{Outcome}
+use Rattle.faithful.specs.declared.placing.Outcome.the-variants.{Full, Stood}
 
 -- ## one step of an offer
 

@@ -9,7 +9,7 @@ use Rattle.records.proofs.Checks.{Formed, formed}
 use Rattle.records.specs.declared.refusal.Refusal.the-variants.{TooLarge, ImageLimit, PageLimit}
 use Rattle.records.specs.Records.{sizeOf}
 use Rattle.records.specs.Layouts.{standing, pageCount}
-use Rattle.replay.specs.declared.placing.Outcome.the-variants.{Full, Nowhere, Stood}
+use Rattle.faithful.specs.declared.placing.Outcome.the-variants.{Full, Nowhere, Stood}
 use Rattle.offers.specs.Offers.{outcome}
 use Rattle.offers.proofs.Rows.{refused, room-large, room-images, room-pages, room-none, full-pages, open-pages, placed-answer, nowhere-answer}
 use borrow.Author.Needs.{needs}

@@ -7,9 +7,9 @@ use Rattle.records.specs.Records.{sizeOf}
 use Rattle.records.specs.declared.frame.Record.{Record}
 use Rattle.records.proofs.Checks.{bounded}
 use Rattle.rules.specs.Placing.{cellsOn, pageFor}
-use Rattle.replay.specs.Replay.{Skies}
+use Rattle.faithful.specs.Replay.{Skies}
 use borrow.Author.Needs.{needs}
-use Rattle.replay.proofs.Replays.{stands-as, page-is, put-as}
+use Rattle.faithful.proofs.Replays.{stands-as, page-is, put-as}
 use Rattle.offers.proofs.Placings.{near, step-full, step-here}
 use Rattle.offers.proofs.place_art.Statement.{statement}
 use Rattle.offers.proofs.place_art.Tie as tie

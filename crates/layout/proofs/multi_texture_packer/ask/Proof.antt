@@ -5,8 +5,8 @@ use native.Mathlib.Omega.{arith}
 use Rattle.records.proofs.Pages.{count-few}
 use Rattle.records.proofs.Checks.{formed}
 use Rattle.records.specs.Layouts.{standing}
-use Rattle.replay.specs.declared.trust.Trust.the-variants.{Unformed, Unfaithful, StandsOn}
-use Rattle.replay.proofs.Trusting.{Formed2, unformed, not-faithful, stands-on}
+use Rattle.faithful.specs.declared.trust.Trust.the-variants.{Unformed, Unfaithful, StandsOn}
+use Rattle.faithful.proofs.Trusting.{Formed2, unformed, not-faithful, stands-on}
 use Rattle.layout.proofs.Answering.{ask-unformed, ask-unfaithful, ask-rest}
 use borrow.Author.Needs.{needs}
 use Rattle.layout.proofs.multi_texture_packer.ask.Statement.{statement}

@@ -8,11 +8,11 @@ use Rattle.geometry.specs.Placing.{isFound}
 use Rattle.records.specs.declared.frame.Record.{Record}
 use Rattle.rules.specs.Operations.{badSize}
 use Rattle.rules.specs.Placing.{spotOn, cellsOn}
-use Rattle.replay.specs.Replay.{Skies}
+use Rattle.faithful.specs.Replay.{Skies}
 use Rattle.offers.proofs.Keeping.{sized}
 use Rattle.layout.proofs.Answering.{ask-found, ask-size, ask-page, ask-yes, ask-no}
 use borrow.Author.Needs.{needs}
-use Rattle.replay.proofs.Replays.{stands-as}
+use Rattle.faithful.proofs.Replays.{stands-as}
 use Rattle.layout.proofs.multi_texture_packer.ask_on.Statement.{statement}
 use Rattle.layout.proofs.multi_texture_packer.ask_on.Tie as tie
 

@@ -4,8 +4,8 @@ use Rattle.rules.specs.declared.multi_texture_packer.Offering.{Offering}
 use mathlib.Core.List.{List}
 use Prim.Native.Nat.{ℕ}
 use mathlib.Core.Path.{_≡_}
-use Rattle.replay.specs.declared.trust.Trust.the-variants.{Unformed, Unfaithful, StandsOn}
-use Rattle.replay.proofs.Trusting.{Formed2, unformed, not-faithful, stands-on}
+use Rattle.faithful.specs.declared.trust.Trust.the-variants.{Unformed, Unfaithful, StandsOn}
+use Rattle.faithful.proofs.Trusting.{Formed2, unformed, not-faithful, stands-on}
 use Rattle.layout.proofs.Answering.{offer-unformed, offer-unfaithful, offer-rest}
 use borrow.Author.Needs.{needs}
 use Rattle.layout.proofs.multi_texture_packer.offer.Statement.{statement}

@@ -5,8 +5,8 @@ use mathlib.Core.List.{List}
 use Prim.Native.Nat.{ℕ}
 use mathlib.Core.Path.{_≡_}
 use Rattle.records.proofs.Checks.{formed}
-use Rattle.replay.specs.declared.trust.Trust.the-variants.{Unformed, Unfaithful, StandsOn}
-use Rattle.replay.proofs.Trusting.{Formed2, unformed, not-faithful, stands-on}
+use Rattle.faithful.specs.declared.trust.Trust.the-variants.{Unformed, Unfaithful, StandsOn}
+use Rattle.faithful.proofs.Trusting.{Formed2, unformed, not-faithful, stands-on}
 use Rattle.layout.proofs.Answering.{withdraw-unformed, withdraw-unfaithful, withdraw-rest}
 use borrow.Author.Needs.{needs}
 use Rattle.layout.proofs.multi_texture_packer.withdraw.Statement.{statement}
