@@ -1,3 +1,4 @@
 pub mod Rules
 pub mod Lines
 pub mod Table
+pub mod OtherTable

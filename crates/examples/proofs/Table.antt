@@ -58,7 +58,7 @@ table-holds =
     (joined (joined (joined (joined (joined (joined first-holds second-holds) third-holds) fourth-holds) fifth-holds) sixth-holds) seventh-holds)
     eighth-holds)
     ninth-holds
-        .lines
+    .lines
 
 pub table-lines : length table ≡ 29
 unfolding rules table

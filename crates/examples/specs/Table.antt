@@ -36,11 +36,10 @@ first =
 -- 2. 9x8. 4x1 (0,0); 2x3 (4,0); 3x1 (6,0); 1x1 goes to (6,1), the narrower segment. Width 10, third 4x1: 1x1 goes to (0,1).
 
 unfoldable pub second : List Line
-second =
-    (
-      answers (plain 9 8) (offer 0 4 1 ∷ offer 1 2 3 ∷ offer 2 3 1 ∷ offer 3 1 1 ∷ []),
-      at 0 0 0 4 1 ∷ at 0 4 0 2 3 ∷ at 0 6 0 3 1 ∷ at 0 6 1 1 1 ∷ [],
-    )
+second = (
+  answers (plain 9 8) (offer 0 4 1 ∷ offer 1 2 3 ∷ offer 2 3 1 ∷ offer 3 1 1 ∷ []),
+  at 0 0 0 4 1 ∷ at 0 4 0 2 3 ∷ at 0 6 0 3 1 ∷ at 0 6 1 1 1 ∷ [],
+)
     ∷ (
       answers (plain 10 8) (offer 0 4 1 ∷ offer 1 2 3 ∷ offer 2 4 1 ∷ offer 3 1 1 ∷ []),
       at 0 0 0 4 1 ∷ at 0 4 0 2 3 ∷ at 0 6 0 4 1 ∷ at 0 0 1 1 1 ∷ [],
