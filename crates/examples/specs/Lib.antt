@@ -1,0 +1,3 @@
+pub mod TableWords
+pub mod Table
+pub mod OtherTable
