@@ -11,11 +11,11 @@ use Rattle.records.specs.Records.{allZero, isBlank, sizeOf, wholeOf, boxOf, lie
 use Rattle.records.specs.Layouts.{standing, unused, wellFormed, hasKey, recordOf, onPage, endsOf, sizeOfPage, recordNamed}
 use Rattle.records.specs.Samples.{settings, rect, source, made, laid}
 use Rattle.coords.specs.Coordinates.{corners, namedPageSize, between, pastEdge, locateRow, locateRefusal, located}
-use Rattle.coords.specs.Table.{Line, stands, alone, several, answer, inset, frameIs, numbersAre, tenth, tenthLines, insetLines, sixth, furthest, roundLines, fifth, pastLines, unformed, orderLines, mixed, keyLines, table}
+use Rattle.coords.specs.Table.{Line, stands, alone, several, answer, inset, frameIs, numbersAre, onEight, edgeLines, insetLines, sixth, furthest, roundLines, pastMaxima, pastLines, unformed, orderLines, mixed, keyLines, table}
 
 -- every rule, open
 rules : Unit {0}
-unfolding ofBits toBits ofInt add sub div le allOf all any only earliest greatest lying firstOf inBounds blankRecord allZero isBlank sizeOf wholeOf boxOf liesIn boxInside recordWellFormed standing unused wellFormed hasKey recordOf onPage endsOf sizeOfPage settings rect source made laid corners recordNamed namedPageSize between pastEdge locateRow locateRefusal located stands alone several answer inset frameIs numbersAre tenth tenthLines insetLines sixth furthest roundLines fifth pastLines unformed orderLines mixed keyLines table
+unfolding ofBits toBits ofInt add sub div le allOf all any only earliest greatest lying firstOf inBounds blankRecord allZero isBlank sizeOf wholeOf boxOf liesIn boxInside recordWellFormed standing unused wellFormed hasKey recordOf onPage endsOf sizeOfPage settings rect source made laid corners recordNamed namedPageSize between pastEdge locateRow locateRefusal located stands alone several answer inset frameIs numbersAre onEight edgeLines insetLines sixth furthest roundLines pastMaxima pastLines unformed orderLines mixed keyLines table
 rules = tt
 
 pub table-holds : map (λ (l : Line). l .0) table ≡ map (λ (l : Line). l .1) table

@@ -1,5 +1,5 @@
--- Example 10 of document 01 and the edge coordinates of example 5, with lines of our own against wrong readings: beside each computed list stands what it
--- must be. Insets and answers are f32, by their bits.
+-- Lines of our own against wrong readings of coordinates: beside each computed list stands what it must be. Insets and answers are f32, by
+-- their bits.
 -- Assumes nothing.
 use Prim.Native.Nat.{ℕ}
 use mathlib.Core.Bool.{Bool, true, false}
@@ -47,18 +47,18 @@ frameIs x y w h = 0 ∷ 0 ∷ x ∷ y ∷ w ∷ h ∷ []
 unfoldable pub numbersAre : ℕ → ℕ → ℕ → ℕ → List ℕ
 numbersAre left top right bottom = 0 ∷ 1 ∷ left ∷ top ∷ right ∷ bottom ∷ []
 
--- ## example 10: frame x=3, w=5, page width 8; here y=1, h=3, page height 4
+-- ## sides of 8 and 4: nothing is rounded
 
-unfoldable pub tenth : Layout
-tenth = alone 0 false (rect 3 1 5 3)
+unfoldable pub onEight : Layout
+onEight = alone 0 false (rect 3 1 5 3)
 
-unfoldable pub tenthLines : List Line
-tenthLines =
-    (answer tenth 7 Pixels, frameIs 3 1 5 3)
+unfoldable pub edgeLines : List Line
+edgeLines =
+    (answer onEight 7 Pixels, frameIs 3 1 5 3)
     -- 0.375 and 1; 0.25 and 1
-    ∷ (answer tenth 7 Edges, numbersAre 1052770304 1048576000 1065353216 1065353216)
+    ∷ (answer onEight 7 Edges, numbersAre 1052770304 1048576000 1065353216 1065353216)
     -- inset 0.5: 0.4375 and 0.9375; 0.375 and 0.875
-    ∷ (answer tenth 7 (inset 1056964608), numbersAre 1054867456 1052770304 1064304640 1063256064)
+    ∷ (answer onEight 7 (inset 1056964608), numbersAre 1054867456 1052770304 1064304640 1063256064)
     ∷ []
 
 -- ## which insets pass
@@ -66,19 +66,19 @@ tenthLines =
 unfoldable pub insetLines : List Line
 insetLines =
     -- 0, -0 and the smallest positive number: the edges
-    (answer tenth 7 (inset 0), numbersAre 1052770304 1048576000 1065353216 1065353216)
-    ∷ (answer tenth 7 (inset 2147483648), numbersAre 1052770304 1048576000 1065353216 1065353216)
-    ∷ (answer tenth 7 (inset 1), numbersAre 1052770304 1048576000 1065353216 1065353216)
+    (answer onEight 7 (inset 0), numbersAre 1052770304 1048576000 1065353216 1065353216)
+    ∷ (answer onEight 7 (inset 2147483648), numbersAre 1052770304 1048576000 1065353216 1065353216)
+    ∷ (answer onEight 7 (inset 1), numbersAre 1052770304 1048576000 1065353216 1065353216)
     -- the smallest number above 0.5, the greatest below 0, -0.25, 1
-    ∷ (answer tenth 7 (inset 1056964609), 17 ∷ [])
-    ∷ (answer tenth 7 (inset 2147483649), 17 ∷ [])
-    ∷ (answer tenth 7 (inset 3196059648), 17 ∷ [])
-    ∷ (answer tenth 7 (inset 1065353216), 17 ∷ [])
+    ∷ (answer onEight 7 (inset 1056964609), 17 ∷ [])
+    ∷ (answer onEight 7 (inset 2147483649), 17 ∷ [])
+    ∷ (answer onEight 7 (inset 3196059648), 17 ∷ [])
+    ∷ (answer onEight 7 (inset 1065353216), 17 ∷ [])
     -- both infinities, NaN of either sign
-    ∷ (answer tenth 7 (inset 2139095040), 17 ∷ [])
-    ∷ (answer tenth 7 (inset 4286578688), 17 ∷ [])
-    ∷ (answer tenth 7 (inset 2143289344), 17 ∷ [])
-    ∷ (answer tenth 7 (inset 4290772993), 17 ∷ [])
+    ∷ (answer onEight 7 (inset 2139095040), 17 ∷ [])
+    ∷ (answer onEight 7 (inset 4286578688), 17 ∷ [])
+    ∷ (answer onEight 7 (inset 2143289344), 17 ∷ [])
+    ∷ (answer onEight 7 (inset 4290772993), 17 ∷ [])
     ∷ []
 
 -- ## each operation rounded once, in that order; W across, H down
@@ -103,18 +103,18 @@ roundLines =
     ∷ (answer furthest 7 (inset 1056964608), numbersAre 1059704182 1059704182 1065180655 1065180655)
     ∷ []
 
--- ## the frame past the page: example 5, and each edge alone
+-- ## the frame past the page, at both edges and at each alone
 
-unfoldable pub fifth : Bool → Layout
-fifth forced = alone 2 forced (rect 2 2 8 8)
+unfoldable pub pastMaxima : Bool → Layout
+pastMaxima forced = alone 2 forced (rect 2 2 8 8)
 
 unfoldable pub pastLines : List Line
 pastLines =
-    (answer (fifth false) 7 Edges, numbersAre 1042983595 1042983595 1062557013 1062557013)
-    ∷ (answer (fifth true) 7 Edges, 16 ∷ [])
-    ∷ (answer (fifth true) 7 (inset 1056964608), 16 ∷ [])
+    (answer (pastMaxima false) 7 Edges, numbersAre 1042983595 1042983595 1062557013 1062557013)
+    ∷ (answer (pastMaxima true) 7 Edges, 16 ∷ [])
+    ∷ (answer (pastMaxima true) 7 (inset 1056964608), 16 ∷ [])
     -- not asked for pixel answers
-    ∷ (answer (fifth true) 7 Pixels, frameIs 2 2 8 8)
+    ∷ (answer (pastMaxima true) 7 Pixels, frameIs 2 2 8 8)
     -- only the right edge, only the bottom edge
     ∷ (answer (alone 0 true (rect 1 0 8 9)) 7 Edges, 16 ∷ [])
     ∷ (answer (alone 0 true (rect 0 1 8 9)) 7 Edges, 16 ∷ [])
@@ -139,12 +139,12 @@ orderLines =
     ∷ (answer unformed 7 Edges, 2 ∷ [])
     ∷ (answer unformed 9 (inset 2143289344), 2 ∷ [])
     -- no such key, asked before the inset
-    ∷ (answer tenth 9 Pixels, 15 ∷ [])
-    ∷ (answer tenth 9 Edges, 15 ∷ [])
-    ∷ (answer tenth 9 (inset 2143289344), 15 ∷ [])
+    ∷ (answer onEight 9 Pixels, 15 ∷ [])
+    ∷ (answer onEight 9 Edges, 15 ∷ [])
+    ∷ (answer onEight 9 (inset 2143289344), 15 ∷ [])
     -- the inset, asked before the frame
-    ∷ (answer (fifth true) 7 (inset 2143289344), 17 ∷ [])
-    ∷ (answer (fifth true) 7 (inset 1056964609), 17 ∷ [])
+    ∷ (answer (pastMaxima true) 7 (inset 2143289344), 17 ∷ [])
+    ∷ (answer (pastMaxima true) 7 (inset 1056964609), 17 ∷ [])
     ∷ []
 
 -- ## which record, and which page
@@ -177,4 +177,4 @@ keyLines =
     ∷ []
 
 unfoldable pub table : List Line
-table = tenthLines ++ insetLines ++ roundLines ++ pastLines ++ orderLines ++ keyLines
+table = edgeLines ++ insetLines ++ roundLines ++ pastLines ++ orderLines ++ keyLines
