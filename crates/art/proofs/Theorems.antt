@@ -150,7 +150,7 @@ numbers-tell (To k) (To j) e =
 
 -- ## "any two results allowed for one input are shown equal"
 
-one : {A : Type 0} (d : A) {r q : A} → r ≡ d → q ≡ d → r ≡ q
+pub one : {A : Type 0} (d : A) {r q : A} → r ≡ d → q ≡ d → r ≡ q
 one d e f = e ∙ sym f
 
 module _ (s : Stores) (i : Image) where

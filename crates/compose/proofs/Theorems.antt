@@ -16,6 +16,7 @@ use Rattle.records.specs.declared.frame.Page.{Page}
 use Rattle.records.specs.declared.layout.Layout.{Layout}
 use Rattle.records.specs.declared.refusal.Refusal.{Refusal}
 use Rattle.records.specs.declared.refusal.Refusal.the-variants.{NotWellFormed, NoSuchPage, EmptyPage, BadRows, BadLength, PastStore}
+use Rattle.art.proofs.Theorems.{one}
 use Rattle.rules.proofs.Rows.{Passed, answer-in}
 use Rattle.lookup.specs.Looking.{pagePast}
 use Rattle.paint.specs.Pictures.{composedAt, band}
@@ -141,9 +142,6 @@ pub checked-one : (a b : Checked) → checkedNumbers a ≡ checkedNumbers b → 
 checked-one = checked-tells
 
 -- ## "any two results allowed for one input are shown equal"
-
-one : {A : Type 0} (d : A) {r q : A} → r ≡ d → q ≡ d → r ≡ q
-one d e f = e ∙ sym f
 
 -- the answer, and what the buffer then holds
 pub one-compose : (l : Layout) (s : Stores) (p : Page) (g : Background) (first n : ℕ) (buffer : List ℕ) {r q : Composed} {b k : List ℕ}

@@ -32,7 +32,7 @@ use Rattle.records.specs.declared.layout.Layout.{Layout}
 use Rattle.records.specs.declared.refusal.Refusal.{Refusal}
 use Rattle.records.specs.declared.refusal.Refusal.the-variants.{NotWellFormed, NoSuchPage, NoSuchKey, BadRows, PastStore}
 use Rattle.records.proofs.Checks.{formed}
-use Rattle.records.proofs.Theorems.{one}
+use Rattle.art.proofs.Theorems.{one}
 use Rattle.rules.specs.Faithful.{faithful}
 use Rattle.rules.proofs.Rows.{Passed, answer-in}
 use Rattle.rules.proofs.Theorems.{cells-apart}

@@ -11,6 +11,7 @@ use borrow.Author.Tests.{not-true, not-false, leb-true, leb-false}
 use Rattle.geometry.proofs.Words.{both}
 use Rattle.geometry.specs.Words.{all, greatest}
 use Rattle.geometry.specs.declared.rect.Size.{Size}
+use Rattle.art.proofs.Theorems.{one}
 use Rattle.records.specs.Operations.{sizeRefusal, sizeAnswer, noSuchPage, openedNumbers, sizedNumbers, openRow, opened, sizeRow, pageSized}
 use Rattle.records.specs.Refusals.{numberOf, rowNumbers}
 use Rattle.records.specs.declared.layout.Opened.{Opened}
@@ -248,10 +249,6 @@ pub sized-numbered : (o q : Sized) → o ≡ q ↔ sizedNumbers o ≡ sizedNumbe
 sized-numbered o q = (ap sizedNumbers, sized-tells o q)
 
 -- ## "any two results allowed for one input are shown equal"
-
--- each public function of this crate says by one equation what it returns, so this serves them all
-pub one : {A : Type 0} (d : A) {r q : A} → r ≡ d → q ≡ d → r ≡ q
-one d e f = e ∙ sym f
 
 pub one-open : (c : Config) {r q : Opening} → r ≡ opened c → q ≡ opened c → r ≡ q
 one-open c = one (opened c)

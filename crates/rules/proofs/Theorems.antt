@@ -48,6 +48,7 @@ use Rattle.geometry.proofs.Theorems.{page-inside, page-apart}
 use Rattle.records.proofs.Rows.{Nones}
 use Rattle.records.specs.declared.layout.Opening.{Opening}
 use Rattle.records.proofs.Answers.{opened-done, opened-refused}
+use Rattle.art.proofs.Theorems.{one}
 use Rattle.rules.proofs.Rows.{ask-row, offer-row, withdraw-row, Passed, answer-in, holds-none}
 use Rattle.rules.proofs.Pages.{PagesFilled}
 use Rattle.rules.proofs.Accepted.{large-exactly, smaller-fits, art-pixels, art-smaller, accepted-placed, NoPageFits, full-exactly}
@@ -274,9 +275,6 @@ pub withdrawn-one : (a b : Withdrawn) → withdrawnNumbers a ≡ withdrawnNumber
 withdrawn-one = withdrawn-tells
 
 -- ## "any two results allowed for one input are shown equal"
-
-one : {A : Type 0} (d : A) {r q : A} → r ≡ d → q ≡ d → r ≡ q
-one d e f = e ∙ sym f
 
 pub one-ask : (l : Layout) (p : Page) (s : Size) {r q : Asked} → r ≡ asked l p s → q ≡ asked l p s → r ≡ q
 one-ask l p s = one (asked l p s)
