@@ -43,6 +43,9 @@ word-kept l at n =
     (kept-trans (at + 4) (set-kept _ (at + 2) (n / 65536 % 256) (at + 4) (omega arith))
     (set-kept _ (at + 3) (n / 16777216) (at + 4) (omega arith))))
 
+pub as-word-kept : {l z : List ℕ} (at n : ℕ) → z ≡ withWord l at n → Kept (at + 4) l z
+as-word-kept {l} {z} at n e = subst (λ (y : List ℕ). Kept (at + 4) l y) (sym e) (word-kept l at n)
+
 -- a part that is lent and comes back
 pub put-kept : (a e : ℕ) (l v : List ℕ) → a ≤ e → e ≤ length l → length v ≡ e - a → Kept e l (putMid a (e - a) l v)
 put-kept a e l v h g n = record {

@@ -1,6 +1,6 @@
 -- What a command leaves of the answers, and where it goes on.
 -- Assumes nothing.
-use Prim.Native.Nat.{ℕ, _+_, _≤_, _<_}
+use Prim.Native.Nat.{ℕ, _+_, _≤_}
 use mathlib.Core.Path.{_≡_}
 use mathlib.Core.List.{List}
 use lib.ListN.{length}
@@ -14,10 +14,6 @@ pub record Written (written : ℕ) (old new : List ℕ) (s : Step) : Type 0 wher
   pub on : written ≤ s .written
   pub room : s .written + 12 ≤ length old
   pub kept : Kept (s .written) old new
-
--- where it goes on, the next command stands further on in the script, or is its end
-abbrev pub Advanced : ℕ → ℕ → Step → Type 0
-Advanced at end s = s .code ≡ 0 → (at < s .next) × (s .next ≤ end)
 
 -- a refused compose rows writes nothing in the part that it is lent, from a to e
 abbrev pub composedEnd : Composed → ℕ → ℕ → ℕ

@@ -14,7 +14,11 @@ pub fn is_on(n: u32) -> bool {
 }
 
 pub fn store_of(n: u32) -> Store {
-    if n == 0 { Store::Symbols } else { Store::Wording }
+    if n == 0 {
+        Store::Symbols
+    } else {
+        Store::Wording
+    }
 }
 
 fn turn_of(n: u32) -> Turn {

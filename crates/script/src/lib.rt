@@ -2,5 +2,6 @@
 pub mod answers;
 pub mod commands;
 pub mod fields;
+pub mod run;
 pub mod steps;
 pub mod words;

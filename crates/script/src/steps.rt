@@ -3,8 +3,8 @@ ghost use mathlib.Core.Path.{_≡_};
 ghost use Prim.Native.Nat.{_+_, _*_, _≤_, _<_};
 ghost use lib.ListN.{length};
 ghost use Rattle.script.specs.Bytes.{Kept};
-ghost use Rattle.script.specs.Taking.{wordsOf, There};
-ghost use Rattle.script.specs.Stepping.{Written, Advanced, composedEnd};
+ghost use Rattle.script.specs.Taking.{There};
+ghost use Rattle.script.specs.Stepping.{Written, composedEnd};
 use crate::answers;
 use crate::answers::Answer;
 use crate::commands;
@@ -43,7 +43,7 @@ fn nothing_checked() -> Checking
     Checking { answer, past: true }
 }
 
-fn stopped(l: Layout, next: usize, written: usize, code: u32) -> Step
+pub fn stopped(l: Layout, next: usize, written: usize, code: u32) -> Step
     ensures { λ s. ⌜ (s .written ≡ written) × (s .next ≡ next) ⌝ }
 {
     Step {
@@ -69,7 +69,7 @@ fn write_answer(answers: &mut [u8], written: usize, a: Answer, more: u32) -> usi
 }
 
 // 3 where the answer does not fit in front of the end.
-fn say(answers: &mut [u8], written: usize, a: Answer, l: Layout, next: usize) -> Step
+pub fn say(answers: &mut [u8], written: usize, a: Answer, l: Layout, next: usize) -> Step
     requires { ⌜ (a .count ≤ 8) × (written + 12 ≤ length (now answers)) ⌝ }
     ensures { λ s. ⌜ Written written (now (answers .entry)) (now (answers .exit)) s × (s .next ≡ next) ⌝ }
 {
@@ -109,9 +109,19 @@ fn check_part<'a>(
     }
     let shown = &source[a..e];
     let answer = answers::checked(checking::check_rows(
-        l, symbols, wording, page, background, first, rows, shown,
+        l,
+        symbols,
+        wording,
+        page,
+        background,
+        first,
+        rows,
+        shown,
     ));
-    Checking { answer, past: false }
+    Checking {
+        answer,
+        past: false,
+    }
 }
 
 // The source: 0 the script itself, 1 the answers so far, 2 the symbol store, anything else the wording store.
@@ -187,7 +197,7 @@ fn write_number(answers: &mut [u8], written: usize, n: u32, more: u32)
     words::put_word(answers, written + 4, n);
 }
 
-fn compose_step<'a>(
+pub fn compose_step<'a>(
     script: &'a [u8],
     symbols: &'a [u8],
     wording: &'a [u8],
@@ -216,7 +226,7 @@ fn compose_step<'a>(
     }
 }
 
-fn check_step<'a>(
+pub fn check_step<'a>(
     script: &'a [u8],
     symbols: &'a [u8],
     wording: &'a [u8],
@@ -237,7 +247,7 @@ fn check_step<'a>(
 }
 
 // A row has at most 2048 pixels.
-fn row_step<'a>(
+pub fn row_step<'a>(
     script: &'a [u8],
     symbols: &'a [u8],
     wording: &'a [u8],
@@ -270,7 +280,7 @@ fn row_step<'a>(
     }
 }
 
-fn set_step(script: &[u8], at: usize, l: Layout, written: usize) -> Step
+pub fn set_step(script: &[u8], at: usize, l: Layout, written: usize) -> Step
     requires { ⌜ There (now script) at 3 ⌝ }
     ensures { λ s. ⌜ (s .written ≡ written) × (s .next ≡ at + 16) ⌝ }
 {
@@ -289,7 +299,7 @@ fn set_step(script: &[u8], at: usize, l: Layout, written: usize) -> Step
     }
 }
 
-fn data_step(script: &[u8], at: usize, l: Layout, written: usize) -> Step
+pub fn data_step(script: &[u8], at: usize, l: Layout, written: usize) -> Step
     requires { ⌜ There (now script) at 1 ⌝ }
     ensures { λ s. ⌜ (s .written ≡ written) × (at < s .next) × (s .next ≤ length (now (script .entry))) ⌝ }
 {

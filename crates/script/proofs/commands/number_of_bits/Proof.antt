@@ -12,7 +12,7 @@ returns c = search needs
 
 float-from-bits-result : tie.Need-float-from-bits-result
 unfolding nanBits
-float-from-bits-result c = 
+float-from-bits-result c =
     let z : nanBits binary32 (c .before .args .bits) ≡ false = c .if1 .left in
     subst (λ b. T (not b)) (sym z) tt
 

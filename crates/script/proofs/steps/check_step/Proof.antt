@@ -1,53 +1,42 @@
+-- `check_step` says what was checked, or stops. Assumes nothing.
+use mathlib.Core.Path.{sym}
+use native.Mathlib.Omega.{arith}
+use lib.Seq.{length-take-le}
+use Rattle.script.proofs.Going.{there-is, stays, end-from, end-to, composed-kept}
 use borrow.Author.Needs.{needs}
 use Rattle.script.proofs.steps.check_step.Statement.{statement}
 use Rattle.script.proofs.steps.check_step.Tie as tie
-use Rattle.script.proofs.steps.check_step.Reads as reads
-use Rattle.script.proofs.steps.check_step.Lts as lts
-use Rattle.script.proofs.steps.check_source.Reads as check-source-reads
-use Rattle.script.proofs.steps.say.Reads as say-reads
-use Rattle.script.proofs.steps.stopped.Reads as stopped-reads
 
--- src/steps.rt:231:52
 slice-reshare-prefix-check-source : tie.Need-slice-reshare-prefix-check-source
 slice-reshare-prefix-check-source c = search needs
 
--- src/steps.rt:231:52
 slice-aggregate-check-source : tie.Need-slice-aggregate-check-source
-slice-aggregate-check-source c = ?
+slice-aggregate-check-source c = sym (length-take-le _ _ (omega arith))
 
--- src/steps.rt:231:9
 check-source-requires : tie.Need-check-source-requires
 check-source-requires c κs = search needs
 
--- src/steps.rt:233:27
 add-stopped : tie.Need-add-stopped
 add-stopped c = search needs
 
--- src/steps.rt:233:9
 stopped-requires : tie.Need-stopped-requires
 stopped-requires c κs = search needs
 
--- src/steps.rt:233:9
 same-length : tie.Need-same-length
 same-length c = search needs
 
--- src/steps.rt:233:9
 returns : tie.Need-returns
-returns c = ?
+returns c = let s = c .before .before .before .before .before .before .before .before in (stays _ _ _ (c .stopped .ensures .0) (s .pre .1), c .stopped .ensures .1)
 
--- src/steps.rt:236:33
 add-say : tie.Need-add-say
 add-say c = search needs
 
--- src/steps.rt:236:5
 say-requires : tie.Need-say-requires
 say-requires c κs = search needs
 
--- src/steps.rt:219:1
 same-length-2 : tie.Need-same-length-2
 same-length-2 c = search needs
 
--- src/steps.rt:219:1
 returns-2 : tie.Need-returns-2
 returns-2 c = search needs
 

@@ -36,10 +36,10 @@ same-length : tie.Need-same-length
 same-length c = search needs
 
 returns : tie.Need-returns
-returns c = 
+returns c =
     let a = c .before .before .before .before .before .before .before .before .before .before .args in
     let to = a .written + 4 + 4 * a .a .count in
-    let first = subst (λ z. Kept (a .written + 4) (a .answers .now) z) (sym (c .before .before .before .before .before .put-word .ensures)) (word-kept (a .answers .now) (a .written) _) in
+    let first = subst (λ z. Kept (a .written + 4) (a .answers .now) z) (sym (c .before .before .before .before .before .before .put-word .ensures)) (word-kept (a .answers .now) (a .written) _) in
     (refl, kept-trans to (kept-later (a .written + 4) to (omega arith) first) (c .before .before .put-words .ensures))
 
 pub write-answer-spec : {M : Type 1} → statement M

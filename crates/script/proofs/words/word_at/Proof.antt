@@ -47,7 +47,7 @@ add-result-3 c = search needs
 
 returns : tie.Need-returns
 unfolding wordAt
-returns c = 
+returns c =
     let a = c .before .before .before .byte-at .ensures .0 in
     let b = c .before .before .byte-at2 .ensures .0 in
     let d = c .before .byte-at3 .ensures .0 in
