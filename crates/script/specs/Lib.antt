@@ -1,0 +1,4 @@
+pub mod Bytes
+pub mod Saying
+pub mod Taking
+pub mod Stepping
