@@ -4,18 +4,18 @@ use mathlib.Core.List.{map}
 use lib.ListN.{length}
 use Rattle.rules.specs.TableWords.{Line}
 use Rattle.examples.specs.TableWords.{after, sizeOn, pixel, composes, holding, checks, same, off, everyAnswer}
-use Rattle.examples.specs.OtherTable.{threeAndFive, fiveOn, tenth, clearSquare, eleventh, operations, allSet, drawn, threeOffers, seven, nine, four, placedOn, behind, opaque, painted, rowTwo, rowThree, twoRows, shownOn, readOn, leftOn, story, table}
+use Rattle.examples.specs.OtherTable.{threeAndFive, fiveOn, tenth, clearSquare, longLine, eleventh, operations, allSet, drawn, threeOffers, seven, nine, four, placedOn, behind, opaque, painted, rowTwo, rowThree, twoRows, shownOn, readOn, leftOn, story, table}
 use Rattle.examples.proofs.Rules.{below}
 
 -- every rule, open
 rules : Unit {0}
-unfolding below after sizeOn pixel composes holding checks same off everyAnswer threeAndFive fiveOn tenth clearSquare eleventh operations allSet drawn threeOffers seven nine four placedOn behind opaque painted rowTwo rowThree twoRows shownOn readOn leftOn story table
+unfolding below after sizeOn pixel composes holding checks same off everyAnswer threeAndFive fiveOn tenth clearSquare longLine eleventh operations allSet drawn threeOffers seven nine four placedOn behind opaque painted rowTwo rowThree twoRows shownOn readOn leftOn story table
 rules = tt
 
 pub table-holds : map (λ (l : Line). l .0) table ≡ map (λ (l : Line). l .1) table
 unfolding rules
 table-holds = refl
 
-pub table-lines : length table ≡ 34
+pub table-lines : length table ≡ 36
 unfolding rules
 table-lines = refl

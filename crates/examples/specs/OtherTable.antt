@@ -14,7 +14,7 @@ use Rattle.records.specs.declared.texture_packer_config.Config.{Config}
 use Rattle.records.specs.declared.frame.Record.{Record}
 use Rattle.records.specs.declared.layout.Layout.{Layout}
 use Rattle.rules.specs.Story.{filled, Call, Offer, Withdraw}
-use Rattle.rules.specs.TableWords.{Line, plain, limited, trimming, key, image, clear, symbols, offerOf, offer, ask, answersFrom, answers, pageAfter, at, turnedAt, itFits, itDoesNot, goneKey, sides, refused, whole}
+use Rattle.rules.specs.TableWords.{Line, plain, limited, rotating, trimming, key, image, clear, symbols, offerOf, offer, ask, answersFrom, answers, pageAfter, at, turnedAt, itFits, itDoesNot, goneKey, sides, refused, whole}
 use Rattle.lookup.specs.TableWords.{counting, across, shown, nothing, row, refusedRow}
 use Rattle.paint.specs.declared.background.Background.{Background}
 use Rattle.paint.specs.declared.background.Background.the-variants.{Clear, Colour}
@@ -52,14 +52,20 @@ tenth =
 unfoldable pub clearSquare : List Call
 clearSquare = offerOf (symbols (clear 64)) 0 8 8 ∷ []
 
+-- 2048 pixels in a row, or in a column
+unfoldable pub longLine : Stores
+longLine = symbols (replicate 8192 255)
+
 unfoldable pub eleventh : List Line
 eleventh =
     (answers (plain 8 9) (Withdraw ∷ []), refused 18 ∷ [])
     ∷ (pageAfter (plain 8 9) [] 0, refused 11 ∷ [])
     ∷ (
-      answers (plain 8 9) (offer 0 0 1 ∷ offer 0 1 0 ∷ offer 0 2049 1 ∷ offer 0 1 2049 ∷ []),
-      refused 4 ∷ refused 4 ∷ refused 4 ∷ refused 4 ∷ [],
+      answers (plain 8 9) (offer 0 0 1 ∷ offer 0 1 0 ∷ offer 0 2049 1 ∷ offer 0 1 2049 ∷ offer 0 1 1 ∷ []),
+      refused 4 ∷ refused 4 ∷ refused 4 ∷ refused 4 ∷ at 0 0 0 1 1 ∷ [],
     )
+    ∷ (answers (rotating 1 2049) (offerOf longLine 0 1 2048 ∷ []), at 0 0 0 1 2048 ∷ [])
+    ∷ (answers (rotating 1 2049) (offerOf longLine 0 2048 1 ∷ []), turnedAt 0 0 0 1 2048 ∷ [])
     ∷ (
       answers (plain 8 9) (offer 0 1 1 ∷ ask 0 0 1 ∷ ask 0 1 0 ∷ ask 0 2049 1 ∷ ask 0 1 2049 ∷ ask 0 1 1 ∷ ask 0 2048 1 ∷ ask 0 1 2048 ∷ []),
       at 0 0 0 1 1 ∷ refused 4 ∷ refused 4 ∷ refused 4 ∷ refused 4 ∷ itFits ∷ itDoesNot ∷ itDoesNot ∷ [],
