@@ -157,11 +157,13 @@ unfoldable pub twoRows : List ℕ
 twoRows = flat (λ k. k) (rowTwo ++ rowThree)
 
 unfoldable pub shownOn : Layout → List Line
-shownOn l = (
-  across l drawn 0 2 16,
-  (nothing ∷ shown 117 ∷ shown 117 ∷ shown 109 ∷ shown 101 ∷ shown 101 ∷ nothing ∷ [])
-      ++ (shown 1 ∷ shown 1 ∷ shown 5 ∷ shown 9 ∷ shown 13 ∷ shown 17 ∷ shown 21 ∷ shown 21 ∷ nothing ∷ []),
-)
+shownOn l =
+    -- row 2 of page 0, and the last row of the zone on page 1
+    (
+      across l drawn 0 2 16,
+      (nothing ∷ shown 117 ∷ shown 117 ∷ shown 109 ∷ shown 101 ∷ shown 101 ∷ nothing ∷ [])
+          ++ (shown 1 ∷ shown 1 ∷ shown 5 ∷ shown 9 ∷ shown 13 ∷ shown 17 ∷ shown 21 ∷ shown 21 ∷ nothing ∷ []),
+    )
     ∷ (across l drawn 1 3 6, nothing ∷ shown 205 ∷ shown 205 ∷ shown 201 ∷ shown 201 ∷ nothing ∷ [])
     ∷ (composes l drawn painted 0 2 2 (replicate 128 0), holding twoRows)
     -- what was composed is the same; of two bytes changed, in columns 12 and 9 of row 3, column 9 is told; another background differs at once

@@ -2,7 +2,7 @@
 -- it must be, the number and the values of each answer. Sizes at the front are the maxima.
 -- Assumes nothing.
 use Prim.Native.Nat.{ℕ}
-use mathlib.Core.Bool.{Bool, true, false}
+use mathlib.Core.Bool.{true, false}
 use mathlib.Core.List.{List, [], _∷_, _++_}
 use lib.ListN.{replicate}
 use Rattle.geometry.specs.Words.{from}
@@ -36,10 +36,13 @@ first =
 -- 2. 9x8. 4x1 (0,0); 2x3 (4,0); 3x1 (6,0); 1x1 goes to (6,1), the narrower segment. Width 10, third 4x1: 1x1 goes to (0,1).
 
 unfoldable pub second : List Line
-second = (
-  answers (plain 9 8) (offer 0 4 1 ∷ offer 1 2 3 ∷ offer 2 3 1 ∷ offer 3 1 1 ∷ []),
-  at 0 0 0 4 1 ∷ at 0 4 0 2 3 ∷ at 0 6 0 3 1 ∷ at 0 6 1 1 1 ∷ [],
-)
+second =
+    -- width 9
+    (
+      answers (plain 9 8) (offer 0 4 1 ∷ offer 1 2 3 ∷ offer 2 3 1 ∷ offer 3 1 1 ∷ []),
+      at 0 0 0 4 1 ∷ at 0 4 0 2 3 ∷ at 0 6 0 3 1 ∷ at 0 6 1 1 1 ∷ [],
+    )
+    -- width 10
     ∷ (
       answers (plain 10 8) (offer 0 4 1 ∷ offer 1 2 3 ∷ offer 2 4 1 ∷ offer 3 1 1 ∷ []),
       at 0 0 0 4 1 ∷ at 0 4 0 2 3 ∷ at 0 6 0 4 1 ∷ at 0 0 1 1 1 ∷ [],
@@ -94,6 +97,7 @@ sixth =
 unfoldable pub bothThrees : List Call
 bothThrees = offerOf (counting 24 0) 0 3 1 ∷ Offer (counting 24 0) (key 1) (image Symbols 12 3 1) ∷ []
 
+-- of the layout that the offers gave
 unfoldable pub threesOn : Layout → List Line
 threesOn l =
     (zoneColumns l, (0 ∷ 6 ∷ []) ∷ (5 ∷ 11 ∷ []) ∷ [])
