@@ -1,4 +1,3 @@
 pub mod Rules
-pub mod Lines
 pub mod Table
 pub mod OtherTable

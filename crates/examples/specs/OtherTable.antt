@@ -5,7 +5,7 @@ use Prim.Native.Nat.{ℕ, _*_, _^_}
 use mathlib.Core.Bool.{true, false}
 use mathlib.Core.List.{List, [], _∷_, _++_, map}
 use lib.ListN.{replicate, set}
-use Rattle.geometry.specs.Words.{from}
+use Rattle.geometry.specs.Words.{from, flat}
 use Rattle.geometry.specs.declared.spot.Turn.the-variants.{Upright, Turned}
 use Rattle.art.specs.Stores.{Stores, lent}
 use Rattle.art.specs.declared.memory_rgba8_texture.Store.the-variants.{Symbols, Wording}
@@ -13,8 +13,8 @@ use Rattle.records.specs.Samples.{settings, rect, source, made, layoutNumbers}
 use Rattle.records.specs.declared.texture_packer_config.Config.{Config}
 use Rattle.records.specs.declared.frame.Record.{Record}
 use Rattle.records.specs.declared.layout.Layout.{Layout}
-use Rattle.rules.specs.Story.{filled, Call, Offer, Withdraw, step}
-use Rattle.rules.specs.TableWords.{Line, plain, limited, trimming, key, image, clear, symbols, offerOf, offer, ask, answersFrom, answers, pageAfter, at, turnedAt, itFits, itDoesNot, goneKey, sides, refused, whole}
+use Rattle.rules.specs.Story.{filled, Call, Offer, Withdraw}
+use Rattle.rules.specs.TableWords.{Line, plain, limited, rotating, trimming, key, image, clear, symbols, offerOf, offer, ask, answersFrom, answers, pageAfter, at, turnedAt, itFits, itDoesNot, goneKey, sides, refused, whole}
 use Rattle.lookup.specs.TableWords.{counting, across, shown, nothing, row, refusedRow}
 use Rattle.paint.specs.declared.background.Background.{Background}
 use Rattle.paint.specs.declared.background.Background.the-variants.{Clear, Colour}
@@ -30,16 +30,18 @@ use Rattle.examples.specs.TableWords.{after, sizeOn, pixel, composes, ho
 unfoldable pub threeAndFive : List Call
 threeAndFive = offer 0 3 4 ∷ offer 1 5 4 ∷ []
 
+unfoldable pub fiveOn : Layout → List Line
+fiveOn l =
+    (coordinates l 1 Pixels ∷ sizeOn l 0 ∷ [], frameIs 3 0 5 4 ∷ sides 8 4 ∷ [])
+    ∷ (coordinates l 1 Edges ∷ [], numbersAre 1052770304 0 1065353216 1065353216 ∷ [])
+    ∷ (coordinates l 1 (inset 1056964608) ∷ [], numbersAre 1054867456 1040187392 1064304640 1063256064 ∷ [])
+    ∷ []
+
 unfoldable pub tenth : List Line
 tenth =
-    (answers (plain 8 9) threeAndFive, at 0 0 0 3 4 ∷ at 0 3 0 5 4 ∷ [])
-    ∷ (coordinates (after (plain 8 9) threeAndFive) 1 Edges ∷ [], numbersAre 1052770304 0 1065353216 1065353216 ∷ [])
-    ∷ (
-      coordinates (after (plain 8 9) threeAndFive) 1 (inset 1056964608) ∷ [],
-      numbersAre 1054867456 1040187392 1064304640 1063256064 ∷ [],
-    )
+    fiveOn (after (plain 8 9) threeAndFive)
     -- what the bits of left and right stand for, in units of 2 ^ -149: 6 and 16, 7 and 15 sixteenths
-    ∷ (
+    ++ (
       map decoded (1052770304 ∷ 1065353216 ∷ 1054867456 ∷ 1064304640 ∷ []) ∷ [],
       (6 * 2 ^ 145 ∷ 16 * 2 ^ 145 ∷ 7 * 2 ^ 145 ∷ 15 * 2 ^ 145 ∷ []) ∷ [],
     )
@@ -50,14 +52,20 @@ tenth =
 unfoldable pub clearSquare : List Call
 clearSquare = offerOf (symbols (clear 64)) 0 8 8 ∷ []
 
+-- 2048 pixels in a row, or in a column
+unfoldable pub longLine : Stores
+longLine = symbols (replicate 8192 255)
+
 unfoldable pub eleventh : List Line
 eleventh =
     (answers (plain 8 9) (Withdraw ∷ []), refused 18 ∷ [])
     ∷ (pageAfter (plain 8 9) [] 0, refused 11 ∷ [])
     ∷ (
-      answers (plain 8 9) (offer 0 0 1 ∷ offer 0 1 0 ∷ offer 0 2049 1 ∷ offer 0 1 2049 ∷ []),
-      refused 4 ∷ refused 4 ∷ refused 4 ∷ refused 4 ∷ [],
+      answers (plain 8 9) (offer 0 0 1 ∷ offer 0 1 0 ∷ offer 0 2049 1 ∷ offer 0 1 2049 ∷ offer 0 1 1 ∷ []),
+      refused 4 ∷ refused 4 ∷ refused 4 ∷ refused 4 ∷ at 0 0 0 1 1 ∷ [],
     )
+    ∷ (answers (rotating 1 2049) (offerOf longLine 0 1 2048 ∷ []), at 0 0 0 1 2048 ∷ [])
+    ∷ (answers (rotating 1 2049) (offerOf longLine 0 2048 1 ∷ []), turnedAt 0 0 0 1 2048 ∷ [])
     ∷ (
       answers (plain 8 9) (offer 0 1 1 ∷ ask 0 0 1 ∷ ask 0 1 0 ∷ ask 0 2049 1 ∷ ask 0 1 2049 ∷ ask 0 1 1 ∷ ask 0 2048 1 ∷ ask 0 1 2048 ∷ []),
       at 0 0 0 1 1 ∷ refused 4 ∷ refused 4 ∷ refused 4 ∷ refused 4 ∷ itFits ∷ itDoesNot ∷ itDoesNot ∷ [],
@@ -119,20 +127,11 @@ nine = made 9 0 (rect 8 2 6 2) Upright true (source 0 0 6 2) Symbols 0
 unfoldable pub four : Record
 four = made 4 1 (rect 2 2 2 1) Turned true (source 1 0 3 3) Symbols 48
 
-unfoldable pub given : Layout
-given = filled allSet (seven ∷ nine ∷ four ∷ [])
-
--- and with the latest withdrawn
-unfoldable pub left : Layout
-left = filled allSet (seven ∷ nine ∷ [])
-
-unfoldable pub placedLines : List Line
-placedLines = (
-  answers allSet (threeOffers ++ ask 0 3 3 ∷ ask 1 3 3 ∷ ask 2 1 1 ∷ []),
-  turnedAt 0 2 2 3 2 ∷ at 0 8 2 6 2 ∷ turnedAt 1 2 2 2 1 ∷ itDoesNot ∷ itFits ∷ refused 11 ∷ [],
-)
-    ∷ (layoutNumbers (after allSet threeOffers) ∷ [], layoutNumbers given ∷ [])
-    ∷ (sizeOn given 0 ∷ sizeOn given 1 ∷ sizeOn given 2 ∷ [], sides 16 6 ∷ sides 6 5 ∷ refused 11 ∷ [])
+unfoldable pub placedOn : Layout → List Line
+placedOn l =
+    (layoutNumbers l ∷ [], layoutNumbers (filled allSet (seven ∷ nine ∷ four ∷ [])) ∷ [])
+    ∷ (answersFrom l (ask 0 3 3 ∷ ask 1 3 3 ∷ ask 2 1 1 ∷ []), itDoesNot ∷ itFits ∷ refused 11 ∷ [])
+    ∷ (sizeOn l 0 ∷ sizeOn l 1 ∷ sizeOn l 2 ∷ [], sides 16 6 ∷ sides 6 5 ∷ refused 11 ∷ [])
     ∷ []
 
 -- a pixel of the colour behind, and one whose first three bytes count from n on, its alpha 255
@@ -146,62 +145,75 @@ unfoldable pub painted : Background
 painted = Colour (pixel 50 60 70 80) (AtMost 24) true
 
 -- rows 2 and 3 of page 0: of the second image row 0 has alpha 4 to 24, row 1 alpha 28 to 48
-unfoldable pub rowsTwoThree : List ℕ
-rowsTwoThree =
-    behind
-    ++ opaque 117 ++ opaque 117 ++ opaque 109 ++ opaque 101 ++ opaque 101
-    ++ behind ++ behind ++ behind ++ behind ++ behind ++ behind ++ behind ++ behind ++ behind ++ behind
-    ++ behind
-    ++ opaque 121 ++ opaque 121 ++ opaque 113 ++ opaque 105 ++ opaque 105
-    ++ behind
-    ++ opaque 25 ++ opaque 25 ++ opaque 29 ++ opaque 33 ++ opaque 37 ++ opaque 41 ++ opaque 45 ++ opaque 45
-    ++ behind
+unfoldable pub rowTwo : List (List ℕ)
+rowTwo = behind ∷ opaque 117 ∷ opaque 117 ∷ opaque 109 ∷ opaque 101 ∷ opaque 101 ∷ replicate 10 behind
 
-unfoldable pub shownLines : List Line
-shownLines = (
-  across given drawn 0 2 16,
-  nothing ∷ shown 117 ∷ shown 117 ∷ shown 109 ∷ shown 101 ∷ shown 101 ∷ nothing
-      ∷ shown 1 ∷ shown 1 ∷ shown 5 ∷ shown 9 ∷ shown 13 ∷ shown 17 ∷ shown 21 ∷ shown 21 ∷ nothing ∷ [],
-)
-    ∷ (across given drawn 1 3 6, nothing ∷ shown 205 ∷ shown 205 ∷ shown 201 ∷ shown 201 ∷ nothing ∷ [])
-    ∷ (composes given drawn painted 0 2 2 (replicate 128 0), holding rowsTwoThree)
-    -- what was composed is the same; of two bytes changed in column 9 and column 12 of row 3 the first counts; another background differs at once
+unfoldable pub rowThree : List (List ℕ)
+rowThree =
+    (behind ∷ opaque 121 ∷ opaque 121 ∷ opaque 113 ∷ opaque 105 ∷ opaque 105 ∷ behind ∷ [])
+    ++ (opaque 25 ∷ opaque 25 ∷ opaque 29 ∷ opaque 33 ∷ opaque 37 ∷ opaque 41 ∷ opaque 45 ∷ opaque 45 ∷ behind ∷ [])
+
+unfoldable pub twoRows : List ℕ
+twoRows = flat (λ k. k) (rowTwo ++ rowThree)
+
+unfoldable pub shownOn : Layout → List Line
+shownOn l =
+    -- row 2 of page 0, and the last row of the zone on page 1
+    (
+      across l drawn 0 2 16,
+      (nothing ∷ shown 117 ∷ shown 117 ∷ shown 109 ∷ shown 101 ∷ shown 101 ∷ nothing ∷ [])
+          ++ (shown 1 ∷ shown 1 ∷ shown 5 ∷ shown 9 ∷ shown 13 ∷ shown 17 ∷ shown 21 ∷ shown 21 ∷ nothing ∷ []),
+    )
+    ∷ (across l drawn 1 3 6, nothing ∷ shown 205 ∷ shown 205 ∷ shown 201 ∷ shown 201 ∷ nothing ∷ [])
+    ∷ (composes l drawn painted 0 2 2 (replicate 128 0), holding twoRows)
+    -- what was composed is the same; of two bytes changed, in columns 12 and 9 of row 3, column 9 is told; another background differs at once
     ∷ (
-      checks given drawn painted 0 2 2 rowsTwoThree
-          ∷ checks given drawn painted 0 2 2 (set (set rowsTwoThree 112 0) 103 254)
-          ∷ checks given drawn Clear 0 2 2 rowsTwoThree
+      checks l drawn painted 0 2 2 twoRows
+          ∷ checks l drawn painted 0 2 2 (set (set twoRows 112 0) 103 254)
+          ∷ checks l drawn Clear 0 2 2 twoRows
           ∷ [],
       same ∷ off 9 3 ∷ off 0 2 ∷ [],
     )
     ∷ []
 
-unfoldable pub readLines : List Line
-readLines =
+unfoldable pub readOn : Layout → List Line
+readOn l =
     -- the whole rows, untrimmed and not turned
-    (row given drawn 7 3, (0 ∷ []) ∷ (1 ∷ 51 ∷ 16 ∷ []) ∷ (clear 2 ++ from 117 8) ∷ [])
-    ∷ (row given drawn 4 1, (0 ∷ []) ∷ (0 ∷ 60 ∷ 12 ∷ []) ∷ (clear 1 ++ from 205 4 ++ clear 1) ∷ [])
-    ∷ (row given drawn 4 3, refusedRow 13)
-    -- of a turned frame on page 0, and of one on page 1
+    (row l drawn 7 3, (0 ∷ []) ∷ (1 ∷ 51 ∷ 16 ∷ []) ∷ (clear 2 ++ from 117 8) ∷ [])
+    ∷ (row l drawn 4 1, (0 ∷ []) ∷ (0 ∷ 60 ∷ 12 ∷ []) ∷ (clear 1 ++ from 205 4 ++ clear 1) ∷ [])
+    ∷ (row l drawn 4 3, refusedRow 13)
+    -- of a turned frame on page 0, and of one on page 1, inset by 0.25
     ∷ (
-      coordinates given 7 Pixels ∷ coordinates given 7 Edges ∷ coordinates given 4 (inset 1048576000) ∷ [],
+      coordinates l 7 Pixels ∷ coordinates l 7 Edges ∷ coordinates l 4 (inset 1048576000) ∷ [],
       frameIs 2 2 3 2
           ∷ numbersAre 1040187392 1051372203 1050673152 1059760811
           ∷ numbersAre 1052770304 1055286886 1059061760 1057803469
           ∷ [],
     )
+    -- the latest goes, and may come back; then all go
+    ∷ (
+      answersFrom l (Withdraw ∷ Offer drawn (key 4) (image Symbols 48 3 3) ∷ Withdraw ∷ Withdraw ∷ Withdraw ∷ Withdraw ∷ []),
+      goneKey 4 ∷ turnedAt 1 2 2 2 1 ∷ goneKey 4 ∷ goneKey 9 ∷ goneKey 7 ∷ refused 18 ∷ [],
+    )
     ∷ []
 
--- the latest gone: its page, its image and its key with it, and it may come back
-unfoldable pub goneLines : List Line
-goneLines = (
-  answersFrom given (Withdraw ∷ ask 1 1 1 ∷ Offer drawn (key 4) (image Symbols 48 3 3) ∷ Withdraw ∷ Withdraw ∷ Withdraw ∷ Withdraw ∷ []),
-  goneKey 4 ∷ refused 11 ∷ turnedAt 1 2 2 2 1 ∷ goneKey 4 ∷ goneKey 9 ∷ goneKey 7 ∷ refused 18 ∷ [],
-)
-    ∷ (layoutNumbers (step Withdraw given) ∷ [], layoutNumbers left ∷ [])
-    ∷ (sizeOn left 0 ∷ sizeOn left 1 ∷ coordinates left 4 Pixels ∷ [], sides 16 6 ∷ refused 11 ∷ refused 15 ∷ [])
-    ∷ (row left drawn 4 1, refusedRow 15)
-    ∷ (checks left drawn painted 0 2 2 rowsTwoThree ∷ [], same ∷ [])
+-- the latest gone: its page, its image and its key with it
+unfoldable pub leftOn : Layout → List Line
+leftOn l =
+    (layoutNumbers l ∷ [], layoutNumbers (filled allSet (seven ∷ nine ∷ [])) ∷ [])
+    ∷ (answersFrom l (ask 1 1 1 ∷ []), refused 11 ∷ [])
+    ∷ (sizeOn l 0 ∷ sizeOn l 1 ∷ coordinates l 4 Pixels ∷ [], sides 16 6 ∷ refused 11 ∷ refused 15 ∷ [])
+    ∷ (row l drawn 4 1, refusedRow 15)
+    ∷ (checks l drawn painted 0 2 2 twoRows ∷ [], same ∷ [])
     ∷ []
+
+unfoldable pub story : List Line
+story =
+    (answers allSet threeOffers, turnedAt 0 2 2 3 2 ∷ at 0 8 2 6 2 ∷ turnedAt 1 2 2 2 1 ∷ [])
+    ∷ placedOn (after allSet threeOffers)
+    ++ shownOn (after allSet threeOffers)
+    ++ readOn (after allSet threeOffers)
+    ++ leftOn (after allSet (threeOffers ++ Withdraw ∷ []))
 
 unfoldable pub table : List Line
-table = tenth ++ eleventh ++ operations ++ placedLines ++ shownLines ++ readLines ++ goneLines
+table = tenth ++ eleventh ++ operations ++ story

@@ -2,7 +2,7 @@
 -- it must be, the number and the values of each answer. Sizes at the front are the maxima.
 -- Assumes nothing.
 use Prim.Native.Nat.{ℕ}
-use mathlib.Core.Bool.{Bool, true, false}
+use mathlib.Core.Bool.{true, false}
 use mathlib.Core.List.{List, [], _∷_, _++_}
 use lib.ListN.{replicate}
 use Rattle.geometry.specs.Words.{from}
@@ -36,10 +36,13 @@ first =
 -- 2. 9x8. 4x1 (0,0); 2x3 (4,0); 3x1 (6,0); 1x1 goes to (6,1), the narrower segment. Width 10, third 4x1: 1x1 goes to (0,1).
 
 unfoldable pub second : List Line
-second = (
-  answers (plain 9 8) (offer 0 4 1 ∷ offer 1 2 3 ∷ offer 2 3 1 ∷ offer 3 1 1 ∷ []),
-  at 0 0 0 4 1 ∷ at 0 4 0 2 3 ∷ at 0 6 0 3 1 ∷ at 0 6 1 1 1 ∷ [],
-)
+second =
+    -- width 9
+    (
+      answers (plain 9 8) (offer 0 4 1 ∷ offer 1 2 3 ∷ offer 2 3 1 ∷ offer 3 1 1 ∷ []),
+      at 0 0 0 4 1 ∷ at 0 4 0 2 3 ∷ at 0 6 0 3 1 ∷ at 0 6 1 1 1 ∷ [],
+    )
+    -- width 10
     ∷ (
       answers (plain 10 8) (offer 0 4 1 ∷ offer 1 2 3 ∷ offer 2 4 1 ∷ offer 3 1 1 ∷ []),
       at 0 0 0 4 1 ∷ at 0 4 0 2 3 ∷ at 0 6 0 4 1 ∷ at 0 0 1 1 1 ∷ [],
@@ -94,29 +97,27 @@ sixth =
 unfoldable pub bothThrees : List Call
 bothThrees = offerOf (counting 24 0) 0 3 1 ∷ Offer (counting 24 0) (key 1) (image Symbols 12 3 1) ∷ []
 
-unfoldable pub threes : Layout
-threes = after (extruded 14 6 2) bothThrees
+-- of the layout that the offers gave
+unfoldable pub threesOn : Layout → List Line
+threesOn l =
+    (zoneColumns l, (0 ∷ 6 ∷ []) ∷ (5 ∷ 11 ∷ []) ∷ [])
+    ∷ (pixelAt l (counting 24 0) 0 5 0 ∷ pixelAt l (counting 24 0) 0 6 0 ∷ [], shown 8 ∷ shown 8 ∷ [])
+    ∷ []
 
 unfoldable pub seventh : List Line
-seventh =
-    (answers (extruded 14 6 2) bothThrees, at 0 0 0 3 1 ∷ at 0 7 0 3 1 ∷ [])
-    ∷ (zoneColumns threes, (0 ∷ 6 ∷ []) ∷ (5 ∷ 11 ∷ []) ∷ [])
-    ∷ (pixelAt threes (counting 24 0) 0 5 0 ∷ pixelAt threes (counting 24 0) 0 6 0 ∷ [], shown 8 ∷ shown 8 ∷ [])
-    ∷ []
+seventh = (answers (extruded 14 6 2) bothThrees, at 0 0 0 3 1 ∷ at 0 7 0 3 1 ∷ []) ∷ threesOn (after (extruded 14 6 2) bothThrees)
 
 -- 8. 2 wide, 3 high, turned: local (0,0) reads (0,2), (2,1) reads (1,0).
 
 -- the same of an image that is turned, on the page: its pixel (x, y) counts from 8y+4x on
-unfoldable pub turnedPage : Layout
-turnedPage = after (rotating 8 8) (offerOf (counting 24 0) 0 2 3 ∷ [])
+unfoldable pub turnedOn : Layout → List Line
+turnedOn l = (pixelAt l (counting 24 0) 0 0 0 ∷ [], shown 16 ∷ []) ∷ (pixelAt l (counting 24 0) 0 2 1 ∷ [], shown 4 ∷ []) ∷ []
 
 unfoldable pub eighth : List Line
 eighth =
     (point (turnedPoint (rect 0 0 2 3) 0 0) ∷ [], (0 ∷ 2 ∷ []) ∷ [])
     ∷ (point (turnedPoint (rect 0 0 2 3) 2 1) ∷ [], (1 ∷ 0 ∷ []) ∷ [])
-    ∷ (pixelAt turnedPage (counting 24 0) 0 0 0 ∷ [], shown 16 ∷ [])
-    ∷ (pixelAt turnedPage (counting 24 0) 0 2 1 ∷ [], shown 4 ∷ [])
-    ∷ []
+    ∷ turnedOn (after (rotating 8 8) (offerOf (counting 24 0) 0 2 3 ∷ []))
 
 -- 9. 4x4, one 2x1 image, bytes 1 to 8: page 2x1 is 1,2,3,4,5,6,7,8. Background 9,9,9,9, threshold 4, discard: 9,9,9,9,5,6,7,255. Outlines,
 -- no background: 255,0,0,255,255,0,0,255.

@@ -1,4 +1,4 @@
--- Words of the computed table: configurations, calls, answers and records, so that a line reads like document 01.
+-- Words of the computed tables, here and in the crate `examples`: configurations, calls, answers and records, so that a line reads like document 01.
 -- Assumes nothing.
 use Prim.Native.Nat.{ℕ, zero, suc}
 use mathlib.Core.Bool.{Bool, true, false, cond}
