@@ -22,18 +22,18 @@ use Rattle.paint.specs.Pictures.{bytes, line, picture, composedAt, band}
 use Rattle.compose.specs.Composing.{emptyPage, badRows, badLength, bandRefusal, composedAnswer, composedBuffer}
 use Rattle.compose.specs.Checking.{samePixel, differs, columnOff, rowOff, compared, checkedRows}
 use Rattle.compose.specs.TableWords.{colour, plain, plainDiscarding, atMost, atMostDiscarding, counted, opaque, ground, clear, redBytes, pixels, room, composing, done, checking, checkingComposed, same, off, changed, asking, refusedBoth}
-use Rattle.compose.specs.TableChecks.{holed, askHoled, emptyAt, orderLines, wide, wideTop, wideLast, wideRows, checkWide, checkChanged, checkBothChanged, checkLines}
-use Rattle.compose.specs.Table.{holedRows, pair, pairRow, backgroundLines, framedRow, outlineLines, trimLines, twoPages, bordered, forcedPages, pageLines, passing, zoneLines, table}
+use Rattle.compose.specs.TableChecks.{holed, askHoled, emptyAt, orderLines, wide, wideTop, wideLast, wideRows, checkWide, checkChanged, checkBothChanged, checkTall, checkLines}
+use Rattle.compose.specs.Table.{holedRows, pair, pairRow, backgroundLines, framedRow, oblongRow, outlineLines, trimLines, twoPages, bordered, forcedPages, pageLines, passing, fullWidth, zoneLines, table}
 
 -- every rule, open
 rules : Unit {0}
-unfolding from allOf all any only earliest greatest flat onSpan atEnd holdsPoint onOutline lying bytesOf runsPast placeOf pixelFrom pixelIn uprightPixel turnedPoint turnedPixel firstSeen firstOf inBounds blankRecord allZero isBlank sizeOf wholeOf boxOf imageOf liesIn boxInside recordWellFormed standing unused wellFormed onPage pageCount endsOf sizeOfPage noSuchPage bit settings limits rect source made laid zone reaches owner local boxPixel red framePixel pixelOf pixelAmong pixelAt pagePast page counting standingIn whole bothStores trimmed turnedArt uprightArt framed extruded shared left right emptyFirst unformed clearPixel solid composed bytes line picture composedAt band emptyPage badRows badLength bandRefusal composedAnswer composedBuffer samePixel differs columnOff rowOff compared checkedRows colour plain plainDiscarding atMost atMostDiscarding counted opaque ground clear redBytes pixels room composing done checking checkingComposed same off changed asking refusedBoth holed askHoled emptyAt orderLines wide wideTop wideLast wideRows checkWide checkChanged checkBothChanged checkLines holedRows pair pairRow backgroundLines framedRow outlineLines trimLines twoPages bordered forcedPages pageLines passing zoneLines table
+unfolding from allOf all any only earliest greatest flat onSpan atEnd holdsPoint onOutline lying bytesOf runsPast placeOf pixelFrom pixelIn uprightPixel turnedPoint turnedPixel firstSeen firstOf inBounds blankRecord allZero isBlank sizeOf wholeOf boxOf imageOf liesIn boxInside recordWellFormed standing unused wellFormed onPage pageCount endsOf sizeOfPage noSuchPage bit settings limits rect source made laid zone reaches owner local boxPixel red framePixel pixelOf pixelAmong pixelAt pagePast page counting standingIn whole bothStores trimmed turnedArt uprightArt framed extruded shared left right emptyFirst unformed clearPixel solid composed bytes line picture composedAt band emptyPage badRows badLength bandRefusal composedAnswer composedBuffer samePixel differs columnOff rowOff compared checkedRows colour plain plainDiscarding atMost atMostDiscarding counted opaque ground clear redBytes pixels room composing done checking checkingComposed same off changed asking refusedBoth holed askHoled emptyAt orderLines wide wideTop wideLast wideRows checkWide checkChanged checkBothChanged checkTall checkLines holedRows pair pairRow backgroundLines framedRow oblongRow outlineLines trimLines twoPages bordered forcedPages pageLines passing fullWidth zoneLines table
 rules = tt
 
 pub table-holds : map (λ (l : Line). l .0) table ≡ map (λ (l : Line). l .1) table
 unfolding rules
 table-holds = refl
 
-pub table-lines : length table ≡ 80
+pub table-lines : length table ≡ 87
 unfolding rules
 table-lines = refl

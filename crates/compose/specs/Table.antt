@@ -58,6 +58,11 @@ backgroundLines =
 unfoldable pub framedRow : Bool → Background → ℕ → List (List ℕ)
 framedRow outlines g y = composing (framed outlines) (counting 36 0) 0 g y 1 20
 
+-- 4x3 at (1,2), b=e=1: the page is 6x6
+unfoldable pub oblongRow : ℕ → List (List ℕ)
+oblongRow y =
+    composing (standingIn (settings 16 16 0 1 1 1 1 false false true false) (whole 7 0 1 2 4 3 Symbols 0 ∷ [])) (counting 48 0) 0 plain y 1 24
+
 unfoldable pub outlineLines : List Line
 outlineLines =
     (framedRow true Clear 0, done (counted 0 ∷ redBytes ∷ counted 4 ∷ redBytes ∷ counted 8 ∷ []))
@@ -69,6 +74,11 @@ outlineLines =
     ∷ (framedRow true (atMost 255) 1, done (ground ∷ ground ∷ ground ∷ ground ∷ ground ∷ []))
     ∷ (framedRow true (atMostDiscarding 6) 0, done (ground ∷ redBytes ∷ opaque 4 ∷ redBytes ∷ opaque 8 ∷ []))
     ∷ (framedRow false (atMost 6) 1, done (ground ∷ ground ∷ counted 4 ∷ counted 8 ∷ counted 8 ∷ []))
+    -- x is asked of the columns, y of the rows
+    ∷ (oblongRow 0, done (ground ∷ ground ∷ ground ∷ ground ∷ ground ∷ ground ∷ []))
+    ∷ (oblongRow 1, done (counted 0 ∷ redBytes ∷ counted 4 ∷ counted 8 ∷ redBytes ∷ counted 12 ∷ []))
+    ∷ (oblongRow 3, done (counted 16 ∷ redBytes ∷ counted 20 ∷ counted 24 ∷ redBytes ∷ counted 28 ∷ []))
+    ∷ (oblongRow 4, done (redBytes ∷ redBytes ∷ redBytes ∷ redBytes ∷ redBytes ∷ redBytes ∷ []))
     ∷ []
 
 -- ## the trim box: 4x5 art, its box 2x3 at (2,1), b=e=1
@@ -151,11 +161,12 @@ pageLines =
     ∷ (asking emptyFirst (counting 16 0) 0 0 1 8, refusedBoth 12 8)
     ∷ (composing emptyFirst (counting 16 0) 1 Clear 0 1 8, done (counted 0 ∷ counted 4 ∷ []))
     ∷ (
-      composing forcedPages (counting 0 0) 0 (atMost 255) 0 3 24,
+      composing forcedPages (counting 0 0) 0 plain 0 3 24,
       done (ground ∷ ground ∷ ground ∷ ground ∷ ground ∷ ground ∷ []),
     )
     ∷ (composing forcedPages (counting 0 0) 0 Clear 2 1 8, done (clear ∷ clear ∷ []))
     ∷ (asking forcedPages (counting 0 0) 1 2 1 8, refusedBoth 5 8)
+    ∷ (asking forcedPages (counting 36 0) 2 0 1 8, refusedBoth 11 8)
     -- what lies past a forced page's edge is cut off
     ∷ (composing forcedPages (counting 36 0) 1 Clear 1 2 16, done (counted 12 ∷ counted 16 ∷ counted 24 ∷ counted 28 ∷ []))
     ∷ []
@@ -165,6 +176,10 @@ pageLines =
 -- e=1, b=0: 1x1 at (2,0), 1x2 at (0,1). The page is 3x3; the first's zone passes its right edge, the second's its bottom edge
 unfoldable pub passing : Layout
 passing = standingIn (limits 16 16 0 0 1 1 2) (whole 1 0 2 0 1 1 Symbols 0 ∷ whole 2 0 0 1 1 2 Symbols 4 ∷ [])
+
+-- e=2, b=0: 1x1 at (0,0) and at (5,0). The first's zone begins at 0, and still is 5 wide
+unfoldable pub fullWidth : Layout
+fullWidth = standingIn (limits 16 16 0 0 2 1 2) (whole 1 0 0 0 1 1 Symbols 0 ∷ whole 2 0 5 0 1 1 Symbols 4 ∷ [])
 
 unfoldable pub zoneLines : List Line
 zoneLines =
@@ -181,6 +196,10 @@ zoneLines =
     ∷ (
       composing (extruded 1 3) (counting 12 0) 0 plain 0 2 32,
       done (ground ∷ ground ∷ ground ∷ ground ∷ counted 0 ∷ counted 0 ∷ counted 4 ∷ counted 8 ∷ []),
+    )
+    ∷ (
+      composing fullWidth (counting 8 0) 0 Clear 0 1 24,
+      done (counted 0 ∷ counted 0 ∷ counted 0 ∷ counted 0 ∷ counted 0 ∷ counted 4 ∷ []),
     )
     -- the earliest wins, also where its pixel becomes the background
     ∷ (

@@ -95,6 +95,10 @@ checkChanged i = checkWide Clear 1 2 (changed i wideRows)
 unfoldable pub checkBothChanged : ℕ → ℕ → List ℕ
 checkBothChanged i j = checkWide Clear 1 2 (changed i (changed j wideRows))
 
+-- 1x3, higher than wide
+unfoldable pub checkTall : List (List ℕ) → List ℕ
+checkTall ks = checking (standingIn (limits 16 16 0 0 0 1 1) (whole 1 0 0 0 1 3 Symbols 0 ∷ [])) (counting 12 0) 0 Clear 0 3 (pixels ks)
+
 unfoldable pub checkLines : List Line
 checkLines =
     -- one byte is another: column and page row of its pixel
@@ -120,6 +124,11 @@ checkLines =
     ∷ (
       checkWide Clear 0 2 wideRows ∷ checkWide Clear 0 1 wideLast ∷ checkWide Clear 1 1 wideTop ∷ [],
       off 0 0 ∷ off 0 0 ∷ off 0 1 ∷ [],
+    )
+    -- and all of them
+    ∷ (
+      checkTall (counted 0 ∷ counted 4 ∷ counted 8 ∷ []) ∷ checkTall (counted 0 ∷ counted 4 ∷ counted 12 ∷ []) ∷ [],
+      same ∷ off 0 2 ∷ [],
     )
     -- over the same background
     ∷ (
