@@ -4,7 +4,6 @@ ghost use Prim.Native.Nat.{_≤_};
 use libc::STDOUT_FILENO;
 
 // What became of a case.
-const NO_MORE: u32 = 0;
 
 const AGREES: u32 = 1;
 
@@ -54,7 +53,7 @@ fn agrees<'a>(
     same(front(answers, n), expected)
 }
 
-// A case is the sizes of its four parts, a word each, and the parts: script, symbols, wording, expected answers.
+// A case is the lengths of its four parts, a word each, and the parts: script, symbols, wording, expected answers.
 fn next_case(
     fd: i32,
     script: &mut [u8],
@@ -65,9 +64,6 @@ fn next_case(
 ) -> u32 {
     let mut header = [0u8; 16];
     let got = io::read_full(fd, &mut header);
-    if got == 0 {
-        return NO_MORE;
-    }
     let a = script::words::word_at(&header, 0) as usize;
     let b = script::words::word_at(&header, 4) as usize;
     let c = script::words::word_at(&header, 8) as usize;
@@ -123,9 +119,18 @@ fn one_if(b: bool) -> u32
     if b { 1 } else { 0 }
 }
 
-// A proved loop has to end: it stops after a million cases.
+// How many cases the file says it has; 0 where it does not even say that.
+fn told_cases(fd: i32) -> u32 {
+    let mut count = [0u8; 4];
+    if io::read_full(fd, &mut count) < 4 {
+        return 0;
+    }
+    script::words::word_at(&count, 0)
+}
+
 fn replay(
     fd: i32,
+    told: u32,
     script: &mut [u8],
     symbols: &mut [u8],
     wording: &mut [u8],
@@ -136,7 +141,7 @@ fn replay(
     let mut agree: u32 = 0;
     let mut turns: u32 = 0;
     let mut outcome = AGREES;
-    while (turns < 1000000) & (outcome != NO_MORE) & (outcome != BROKEN) {
+    while (turns < told) & (outcome != BROKEN) {
         outcome = next_case(fd, script, symbols, wording, expected, answers);
         say_outcome(outcome, cases);
         agree += one_if(outcome == AGREES);
@@ -150,9 +155,9 @@ fn replay(
 }
 
 fn main() {
-    let fd = os::open_read(b"cases");
+    let fd = os::open_read(b"cases.bin");
     if fd < 0 {
-        os::fail(b"cases");
+        os::fail(b"cases.bin");
         return;
     }
     let mut script = io::large_buffer();
@@ -160,8 +165,10 @@ fn main() {
     let mut wording = io::large_buffer();
     let mut expected = io::large_buffer();
     let mut answers = io::large_buffer();
+    let told = told_cases(fd);
     replay(
         fd,
+        told,
         &mut script,
         &mut symbols,
         &mut wording,

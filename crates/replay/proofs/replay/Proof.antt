@@ -14,10 +14,10 @@ and-left true b e = refl
 and-left false b e = e
 
 abbrev Inv-loop : tie.InvT-loop
-Inv-loop fd script₀ symbols₀ wording₀ expected₀ answers₀ cases₀ agree₀ turns₀ outcome₀ t11 t12 script symbols wording expected answers cases agree turns outcome =
+Inv-loop fd told script₀ symbols₀ wording₀ expected₀ answers₀ cases₀ agree₀ turns₀ outcome₀ t11 t12 script symbols wording expected answers cases agree turns outcome =
     (cases ≤ turns)
     × (agree ≤ turns)
-    × (turns ≤ 1000000)
+    × (turns ≤ told)
     × (length script ≡ length script₀)
     × (length symbols ≡ length symbols₀)
     × (length wording ≡ length wording₀)
@@ -25,11 +25,11 @@ Inv-loop fd script₀ symbols₀ wording₀ expected₀ answers₀ cases₀ agre
     × (length answers ≡ length answers₀)
 
 abbrev μ-loop : tie.MeasureT-loop
-μ-loop fd script₀ symbols₀ wording₀ expected₀ answers₀ cases₀ agree₀ turns₀ outcome₀ t11 t12 script symbols wording expected answers cases agree turns outcome = 1000000 - turns
+μ-loop fd told script₀ symbols₀ wording₀ expected₀ answers₀ cases₀ agree₀ turns₀ outcome₀ t11 t12 script symbols wording expected answers cases agree turns outcome = told - turns
 
 -- the loop's test
-below : (c : tie.In-loop Inv-loop μ-loop) → c .before .loop .turns < 1000000
-below c = ltb-true _ _ (and-left _ _ (and-left _ _ (c .loop-test .taken)))
+below : (c : tie.In-loop Inv-loop μ-loop) → c .before .loop .turns < c .before .before .before .before .before .before .before .args .told
+below c = ltb-true _ _ (and-left _ _ (c .loop-test .taken))
 
 loop-holds : tie.Need-loop-holds Inv-loop μ-loop
 loop-holds c = (omega arith, omega arith, omega arith, refl, refl, refl, refl, refl)
@@ -44,16 +44,16 @@ one-if-requires : tie.Need-one-if-requires Inv-loop μ-loop
 one-if-requires c κs = search needs
 
 add-agree : tie.Need-add-agree Inv-loop μ-loop
-add-agree c = let i = c .before .before .before .before .before .before .before .before .before .before .before .before .before .before .before .before .before .before .before .loop .inv in let k = c .one-if .ensures in let a = i .1 in let t = i .2 in omega arith
+add-agree c = let w = below (c .before .before .before .before .before .before .before .before .before .before .before .before .before .before .before .before .before .before) in let i = c .before .before .before .before .before .before .before .before .before .before .before .before .before .before .before .before .before .before .before .loop .inv in let k = c .one-if .ensures in let a = i .1 in let t = i .2 in omega arith
 
 one-if-requires-2 : tie.Need-one-if-requires-2 Inv-loop μ-loop
 one-if-requires-2 c κs = search needs
 
 add-cases : tie.Need-add-cases Inv-loop μ-loop
-add-cases c = let i = c .before .before .before .before .before .before .before .before .before .before .before .before .before .before .before .before .before .before .before .before .loop .inv in let k = c .one-if2 .ensures in let a = i .0 in let t = i .2 in omega arith
+add-cases c = let w = below (c .before .before .before .before .before .before .before .before .before .before .before .before .before .before .before .before .before .before .before) in let i = c .before .before .before .before .before .before .before .before .before .before .before .before .before .before .before .before .before .before .before .before .loop .inv in let k = c .one-if2 .ensures in let a = i .0 in let t = i .2 in omega arith
 
 add-turns : tie.Need-add-turns Inv-loop μ-loop
-add-turns c = let t = c .before .before .before .before .before .before .before .before .before .before .before .before .before .before .before .before .before .before .before .before .loop .inv .2 in omega arith
+add-turns c = let w = below (c .before .before .before .before .before .before .before .before .before .before .before .before .before .before .before .before .before .before .before) in let t = c .before .before .before .before .before .before .before .before .before .before .before .before .before .before .before .before .before .before .before .before .loop .inv .2 in omega arith
 
 loop-less : tie.Need-loop-less Inv-loop μ-loop
 loop-less c = let t = below (c .before .before .before .before .before .before .before .before .before .before .before .before .before .before .before .before .before .before .before) in omega arith
