@@ -2,16 +2,15 @@
 ghost use mathlib.Core.Path.{_≡_};
 ghost use Prim.Native.Nat.{_+_, _≤_, _<_};
 ghost use lib.ListN.{length};
-ghost use Rattle.script.specs.Bytes.{Kept};
-ghost use Rattle.script.specs.Taking.{wordsOf, There};
+ghost use Rattle.wire.specs.Bytes.{Kept};
+ghost use Rattle.commands.specs.Taking.{wordsOf, There};
 ghost use Rattle.script.specs.Stepping.{Written};
-use crate::commands;
 use crate::steps;
 use crate::steps::Step;
-use crate::words;
 use records::layout as layouts;
 use records::layout::Layout;
 use records::texture_packer_config;
+use wire::words;
 
 // The command at byte `at`, whose words are there.
 fn run_command<'a>(

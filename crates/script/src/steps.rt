@@ -2,15 +2,9 @@
 ghost use mathlib.Core.Path.{_≡_};
 ghost use Prim.Native.Nat.{_+_, _*_, _≤_, _<_};
 ghost use lib.ListN.{length};
-ghost use Rattle.script.specs.Bytes.{Kept};
-ghost use Rattle.script.specs.Taking.{There};
+ghost use Rattle.wire.specs.Bytes.{Kept};
+ghost use Rattle.commands.specs.Taking.{There};
 ghost use Rattle.script.specs.Stepping.{Written, composedEnd};
-use crate::answers;
-use crate::answers::Answer;
-use crate::commands;
-use crate::commands::Outcome;
-use crate::fields;
-use crate::words;
 use compose::checking;
 use compose::image_exporter;
 use compose::image_exporter::Composed;
@@ -18,6 +12,10 @@ use lookup::image_row;
 use records::frame::Key;
 use records::frame::Page;
 use records::layout::Layout;
+use wire::answers;
+use wire::answers::Answer;
+use wire::fields;
+use wire::words;
 
 // Where a command leaves off: the layout, the next command's place in the script, the bytes of answers written, and why it ended, 0 where it goes on.
 pub struct Step {

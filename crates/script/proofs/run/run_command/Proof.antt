@@ -1,8 +1,9 @@
 -- `run_command` has the words of each command. Assumes nothing.
 use Prim.Native.Nat.{_+_, _-_, _*_, _≤_}
 use native.Mathlib.Omega.{arith}
-use Rattle.script.specs.Taking.{wordsOf}
-use Rattle.script.proofs.Going.{there-is, stays}
+use Rattle.commands.specs.Taking.{wordsOf}
+use Rattle.commands.proofs.Counts.{there-is}
+use Rattle.script.proofs.Going.{stays}
 use borrow.Author.Needs.{needs}
 use Rattle.script.proofs.run.run_command.Statement.{statement}
 use Rattle.script.proofs.run.run_command.Tie as tie

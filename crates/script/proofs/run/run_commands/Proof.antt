@@ -4,8 +4,8 @@ use lib.ListN.{length}
 use native.Mathlib.Omega.{arith}
 use mathlib.Core.Path.{_≡_, refl, sym, ap, _∙_, subst}
 use borrow.Author.Needs.{needs}
-use Rattle.script.specs.Bytes.{Kept}
-use Rattle.script.proofs.Keeping.{kept-none, kept-trans, kept-later}
+use Rattle.wire.specs.Bytes.{Kept}
+use Rattle.wire.proofs.Keeping.{kept-none, kept-trans, kept-later}
 use Rattle.script.proofs.run.run_commands.Statement.{statement}
 use Rattle.script.proofs.run.run_commands.Tie as tie
 

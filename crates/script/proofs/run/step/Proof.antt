@@ -1,7 +1,8 @@
 -- `step` stops at no command and at a command that is cut short. Assumes nothing.
 use Prim.Native.Nat.{_+_, _-_, _*_, _≤_}
 use native.Mathlib.Omega.{arith}
-use Rattle.script.proofs.Going.{stays, few-words}
+use Rattle.commands.proofs.Counts.{few-words}
+use Rattle.script.proofs.Going.{stays}
 use borrow.Author.Needs.{needs}
 use Rattle.script.proofs.run.step.Statement.{statement}
 use Rattle.script.proofs.run.step.Tie as tie
