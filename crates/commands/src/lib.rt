@@ -51,7 +51,7 @@ fn config_at(script: &[u8], at: usize) -> Config
     }
 }
 
-pub fn open(script: &[u8], at: usize) -> Outcome
+fn open(script: &[u8], at: usize) -> Outcome
     requires { ⌜ at + 48 ≤ length (now script) ⌝ }
     ensures { λ r. ⌜ r .answer .count ≤ 8 ⌝ }
 {
@@ -62,7 +62,7 @@ pub fn open(script: &[u8], at: usize) -> Outcome
     Outcome { answer, layout: l }
 }
 
-pub fn ask(script: &[u8], at: usize, l: Layout) -> Answer
+fn ask(script: &[u8], at: usize, l: Layout) -> Answer
     requires { ⌜ at + 16 ≤ length (now script) ⌝ }
     ensures { λ r. ⌜ r .count ≤ 8 ⌝ }
 {
@@ -72,7 +72,7 @@ pub fn ask(script: &[u8], at: usize, l: Layout) -> Answer
     answers::asked(multi_texture_packer::ask(l, page, Size { w, h }))
 }
 
-pub fn offer<'a>(
+fn offer<'a>(
     script: &'a [u8],
     symbols: &'a [u8],
     wording: &'a [u8],
@@ -103,7 +103,7 @@ pub fn offer<'a>(
     }
 }
 
-pub fn withdraw(l: Layout) -> Outcome
+fn withdraw(l: Layout) -> Outcome
     ensures { λ r. ⌜ r .answer .count ≤ 8 ⌝ }
 {
     let o = multi_texture_packer::withdraw(l);
@@ -116,7 +116,7 @@ pub fn withdraw(l: Layout) -> Outcome
     }
 }
 
-pub fn page_size(script: &[u8], at: usize, l: Layout) -> Answer
+fn page_size(script: &[u8], at: usize, l: Layout) -> Answer
     requires { ⌜ at + 8 ≤ length (now script) ⌝ }
     ensures { λ r. ⌜ r .count ≤ 8 ⌝ }
 {
@@ -124,13 +124,7 @@ pub fn page_size(script: &[u8], at: usize, l: Layout) -> Answer
     answers::sized(layouts::page_size(l, page))
 }
 
-pub fn pixel<'a>(
-    script: &'a [u8],
-    symbols: &'a [u8],
-    wording: &'a [u8],
-    at: usize,
-    l: Layout,
-) -> Answer
+fn pixel<'a>(script: &'a [u8], symbols: &'a [u8], wording: &'a [u8], at: usize, l: Layout) -> Answer
     requires { ⌜ at + 16 ≤ length (now script) ⌝ }
     ensures { λ r. ⌜ r .count ≤ 8 ⌝ }
 {

@@ -244,7 +244,7 @@ pub fn check_step<'a>(
     say(answers, written, a, l, at + 44)
 }
 
-// A row has at most 2048 pixels.
+// Row of an image: it has at most 2048 pixels.
 pub fn row_step<'a>(
     script: &'a [u8],
     symbols: &'a [u8],
@@ -262,18 +262,17 @@ pub fn row_step<'a>(
     let n = answers::row_read(image_row::row_refusal(l, symbols, wording, key, row));
     let part = image_row::row_of_image(l, symbols, wording, key, row);
     let size = part.len();
-    if 8192 < size {
-        return stopped(l, at + 12, written, 3);
-    }
     if answers.len() - written - 12 < 8 + size {
         return stopped(l, at + 12, written, 3);
     }
     write_number(answers, written, n, (size / 4) as u32);
     words::put_bytes(answers, written + 8, part);
+    let next = at + 12;
+    let to = written + 8 + size;
     Step {
         layout: l,
-        next: at + 12,
-        written: written + 8 + size,
+        next,
+        written: to,
         code: 0,
     }
 }

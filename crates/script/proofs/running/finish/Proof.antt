@@ -4,8 +4,8 @@ use native.Mathlib.Omega.{arith}
 use mathlib.Core.Path.{_≡_, refl, sym, ap, _∙_, subst}
 use Rattle.wire.proofs.Keeping.{kept-none, kept-trans, kept-later, kept-as, as-word-kept}
 use borrow.Author.Needs.{needs}
-use Rattle.script.proofs.run.finish.Statement.{statement}
-use Rattle.script.proofs.run.finish.Tie as tie
+use Rattle.script.proofs.running.finish.Statement.{statement}
+use Rattle.script.proofs.running.finish.Tie as tie
 
 put-word-requires : tie.Need-put-word-requires
 put-word-requires c κs = search needs

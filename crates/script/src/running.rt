@@ -101,7 +101,7 @@ fn blank() -> Layout {
     layouts::empty_layout(texture_packer_config::blank_config())
 }
 
-fn run_commands<'a>(
+pub fn run_commands<'a>(
     script: &'a [u8],
     symbols: &'a [u8],
     wording: &'a [u8],
@@ -124,27 +124,4 @@ fn run_commands<'a>(
         written = s.written;
     }
     finish(answers, written, 0, at)
-}
-
-// How many bytes of the answers were written.
-pub fn run<'a>(script: &'a [u8], symbols: &'a [u8], wording: &'a [u8], answers: &mut [u8]) -> usize
-    ensures { λ r. ⌜ (r ≤ length (now (answers .entry))) × Kept r (now (answers .entry)) (now (answers .exit)) ⌝ }
-{
-    if answers.len() < 12 {
-        return 0;
-    }
-    run_commands(script, symbols, wording, answers)
-}
-
-// The same for callers in other languages.
-#[no_mangle]
-pub extern "C" fn firmeskal_run<'a>(
-    script: &'a [u8],
-    symbols: &'a [u8],
-    wording: &'a [u8],
-    answers: &mut [u8],
-) -> usize
-    ensures { λ r. ⌜ (r ≤ length (now (answers .entry))) × Kept r (now (answers .entry)) (now (answers .exit)) ⌝ }
-{
-    run(script, symbols, wording, answers)
 }

@@ -5,8 +5,8 @@ use Rattle.commands.specs.Taking.{wordsOf}
 use Rattle.commands.proofs.Counts.{there-is}
 use Rattle.script.proofs.Going.{stays}
 use borrow.Author.Needs.{needs}
-use Rattle.script.proofs.run.run_command.Statement.{statement}
-use Rattle.script.proofs.run.run_command.Tie as tie
+use Rattle.script.proofs.running.run_command.Statement.{statement}
+use Rattle.script.proofs.running.run_command.Tie as tie
 
 first-six-requires : tie.Need-first-six-requires
 first-six-requires c κs = search needs

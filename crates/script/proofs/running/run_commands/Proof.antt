@@ -6,8 +6,8 @@ use mathlib.Core.Path.{_≡_, refl, sym, ap, _∙_, subst}
 use borrow.Author.Needs.{needs}
 use Rattle.wire.specs.Bytes.{Kept}
 use Rattle.wire.proofs.Keeping.{kept-none, kept-trans, kept-later}
-use Rattle.script.proofs.run.run_commands.Statement.{statement}
-use Rattle.script.proofs.run.run_commands.Tie as tie
+use Rattle.script.proofs.running.run_commands.Statement.{statement}
+use Rattle.script.proofs.running.run_commands.Tie as tie
 
 abbrev Inv-loop : tie.InvT-loop
 Inv-loop script symbols wording answers₀ l₀ at₀ written₀ answers l at written = (at ≤ length script) × (written + 12 ≤ length answers₀) × Kept written answers₀ answers

@@ -4,8 +4,8 @@ use native.Mathlib.Omega.{arith}
 use Rattle.commands.proofs.Counts.{few-words}
 use Rattle.script.proofs.Going.{stays}
 use borrow.Author.Needs.{needs}
-use Rattle.script.proofs.run.step.Statement.{statement}
-use Rattle.script.proofs.run.step.Tie as tie
+use Rattle.script.proofs.running.step.Statement.{statement}
+use Rattle.script.proofs.running.step.Tie as tie
 
 sub-left : tie.Need-sub-left
 sub-left c = search needs
