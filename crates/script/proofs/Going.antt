@@ -1,5 +1,5 @@
--- Laws of one command: its words are there, nothing is written where it stops, and what compose rows leaves. Assumes nothing.
-use Prim.Native.Nat.{ℕ, zero, suc, _+_, _-_, _≤_}
+-- Laws of one command: nothing is written where it stops, and what compose rows leaves. Assumes nothing.
+use Prim.Native.Nat.{ℕ, _+_, _-_, _≤_}
 use native.Mathlib.Omega.{arith}
 use mathlib.Core.Path.{_≡_, refl, sym, ap, _∙_, subst}
 use mathlib.Core.List.{List}
@@ -15,30 +15,10 @@ use Rattle.paint.specs.Pictures.{band}
 use Rattle.compose.specs.Composing.{composeAnswer, composeBuffer, bandRefusal, composedAnswer, composedBuffer}
 use Rattle.compose.specs.declared.image_exporter.Composed.{Composed}
 use Rattle.compose.specs.declared.image_exporter.Composed.the-variants.{Done, Refused}
-use Rattle.script.specs.Bytes.{Kept}
-use Rattle.script.specs.Taking.{wordsOf, There}
+use Rattle.wire.specs.Bytes.{Kept}
 use Rattle.script.specs.Stepping.{Written, composedEnd}
 use Rattle.script.specs.declared.steps.Step.{Step}
-use Rattle.script.proofs.Keeping.{kept-none, put-kept}
-
-pub there-is : (s : List ℕ) (at n k : ℕ) → n ≡ k → There s at (wordsOf n) → There s at (wordsOf k)
-there-is s at n k e h = subst (λ (m : ℕ). There s at (wordsOf m)) e h
-
-pub few-words : (n : ℕ) → wordsOf n ≤ 11
-unfolding wordsOf
-few-words zero = omega arith
-few-words (suc zero) = omega arith
-few-words (suc (suc zero)) = omega arith
-few-words (suc (suc (suc zero))) = omega arith
-few-words (suc (suc (suc (suc zero)))) = omega arith
-few-words (suc (suc (suc (suc (suc zero))))) = omega arith
-few-words (suc (suc (suc (suc (suc (suc zero)))))) = omega arith
-few-words (suc (suc (suc (suc (suc (suc (suc zero))))))) = omega arith
-few-words (suc (suc (suc (suc (suc (suc (suc (suc zero)))))))) = omega arith
-few-words (suc (suc (suc (suc (suc (suc (suc (suc (suc zero))))))))) = omega arith
-few-words (suc (suc (suc (suc (suc (suc (suc (suc (suc (suc zero)))))))))) = omega arith
-few-words (suc (suc (suc (suc (suc (suc (suc (suc (suc (suc (suc zero))))))))))) = omega arith
-few-words (suc (suc (suc (suc (suc (suc (suc (suc (suc (suc (suc (suc n)))))))))))) = omega arith
+use Rattle.wire.proofs.Keeping.{kept-none, put-kept}
 
 -- nothing is written
 pub stays : (w : ℕ) (l : List ℕ) (s : Step) → s .written ≡ w → w + 12 ≤ length l → Written w l l s

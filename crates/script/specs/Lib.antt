@@ -1,4 +1,1 @@
-pub mod Bytes
-pub mod Saying
-pub mod Taking
 pub mod Stepping

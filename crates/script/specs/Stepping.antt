@@ -6,7 +6,7 @@ use mathlib.Core.List.{List}
 use lib.ListN.{length}
 use Rattle.compose.specs.declared.image_exporter.Composed.{Composed}
 use Rattle.compose.specs.declared.image_exporter.Composed.the-variants.{Done, Refused}
-use Rattle.script.specs.Bytes.{Kept}
+use Rattle.wire.specs.Bytes.{Kept}
 use Rattle.script.specs.declared.steps.Step.{Step}
 
 -- the end still fits, and nothing past what is written is touched

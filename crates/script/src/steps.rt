@@ -2,15 +2,9 @@
 ghost use mathlib.Core.Path.{_≡_};
 ghost use Prim.Native.Nat.{_+_, _*_, _≤_, _<_};
 ghost use lib.ListN.{length};
-ghost use Rattle.script.specs.Bytes.{Kept};
-ghost use Rattle.script.specs.Taking.{There};
+ghost use Rattle.wire.specs.Bytes.{Kept};
+ghost use Rattle.commands.specs.Taking.{There};
 ghost use Rattle.script.specs.Stepping.{Written, composedEnd};
-use crate::answers;
-use crate::answers::Answer;
-use crate::commands;
-use crate::commands::Outcome;
-use crate::fields;
-use crate::words;
 use compose::checking;
 use compose::image_exporter;
 use compose::image_exporter::Composed;
@@ -18,6 +12,10 @@ use lookup::image_row;
 use records::frame::Key;
 use records::frame::Page;
 use records::layout::Layout;
+use wire::answers;
+use wire::answers::Answer;
+use wire::fields;
+use wire::words;
 
 // Where a command leaves off: the layout, the next command's place in the script, the bytes of answers written, and why it ended, 0 where it goes on.
 pub struct Step {
@@ -246,7 +244,7 @@ pub fn check_step<'a>(
     say(answers, written, a, l, at + 44)
 }
 
-// A row has at most 2048 pixels.
+// Row of an image: it has at most 2048 pixels.
 pub fn row_step<'a>(
     script: &'a [u8],
     symbols: &'a [u8],
@@ -264,18 +262,17 @@ pub fn row_step<'a>(
     let n = answers::row_read(image_row::row_refusal(l, symbols, wording, key, row));
     let part = image_row::row_of_image(l, symbols, wording, key, row);
     let size = part.len();
-    if 8192 < size {
-        return stopped(l, at + 12, written, 3);
-    }
     if answers.len() - written - 12 < 8 + size {
         return stopped(l, at + 12, written, 3);
     }
     write_number(answers, written, n, (size / 4) as u32);
     words::put_bytes(answers, written + 8, part);
+    let next = at + 12;
+    let to = written + 8 + size;
     Step {
         layout: l,
-        next: at + 12,
-        written: written + 8 + size,
+        next,
+        written: to,
         code: 0,
     }
 }

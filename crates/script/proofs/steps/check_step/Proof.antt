@@ -2,7 +2,7 @@
 use mathlib.Core.Path.{sym}
 use native.Mathlib.Omega.{arith}
 use lib.Seq.{length-take-le}
-use Rattle.script.proofs.Going.{there-is, stays, end-from, end-to, composed-kept}
+use Rattle.script.proofs.Going.{stays}
 use borrow.Author.Needs.{needs}
 use Rattle.script.proofs.steps.check_step.Statement.{statement}
 use Rattle.script.proofs.steps.check_step.Tie as tie

@@ -1,7 +1,7 @@
 -- `compose_in` lends the part, and a refusal gives it back as it was. Assumes nothing.
 use mathlib.Core.Path.{_≡_, refl, sym, ap, _∙_, subst}
 use borrow.Rule.Slice.PartMut.{mid-len}
-use Rattle.script.proofs.Going.{there-is, stays, end-from, end-to, composed-kept}
+use Rattle.script.proofs.Going.{composed-kept}
 use borrow.Author.Needs.{needs}
 use Rattle.script.proofs.steps.compose_in.Statement.{statement}
 use Rattle.script.proofs.steps.compose_in.Tie as tie

@@ -2,9 +2,9 @@
 use Prim.Native.Nat.{_+_, _-_, _*_, _≤_}
 use native.Mathlib.Omega.{arith}
 use mathlib.Core.Path.{_≡_, refl, sym, ap, _∙_, subst}
-use Rattle.script.specs.Bytes.{Kept}
-use Rattle.script.proofs.Keeping.{kept-none, kept-trans, kept-later, kept-as, word-kept}
-use Rattle.script.proofs.Going.{there-is, stays, end-from, end-to, composed-kept}
+use Rattle.wire.specs.Bytes.{Kept}
+use Rattle.wire.proofs.Keeping.{kept-none, kept-trans, kept-later, kept-as, word-kept}
+use Rattle.script.proofs.Going.{stays, end-from, end-to}
 use borrow.Author.Needs.{needs}
 use Rattle.script.proofs.steps.compose_step.Statement.{statement}
 use Rattle.script.proofs.steps.compose_step.Tie as tie

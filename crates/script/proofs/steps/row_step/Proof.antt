@@ -3,12 +3,16 @@ use lib.ListN.{length}
 use Prim.Native.Nat.{_+_, _-_, _*_, _≤_}
 use native.Mathlib.Omega.{arith}
 use mathlib.Core.Path.{_≡_, refl, sym, ap, _∙_, subst}
-use Rattle.script.specs.Bytes.{Kept}
-use Rattle.script.proofs.Keeping.{kept-none, kept-trans, kept-later, kept-as, word-kept}
-use Rattle.script.proofs.Going.{there-is, stays, end-from, end-to, composed-kept}
+use Rattle.wire.specs.Bytes.{Kept}
+use Rattle.wire.proofs.Keeping.{kept-none, kept-trans, kept-later, kept-as, word-kept}
+use Rattle.script.proofs.Handed.{row-short}
+use Rattle.script.proofs.Going.{stays}
 use borrow.Author.Needs.{needs}
 use Rattle.script.proofs.steps.row_step.Statement.{statement}
 use Rattle.script.proofs.steps.row_step.Tie as tie
+
+short : (c : tie.After-row-of-image) → length (c .row-of-image .result .now) ≤ 8192
+short c = row-short _ _ _ _ _ _ _ (c .row-of-image .ensures)
 
 add-word-at : tie.Need-add-word-at
 add-word-at c = search needs
@@ -31,6 +35,15 @@ row-read-requires c κs = search needs
 row-of-image-requires : tie.Need-row-of-image-requires
 row-of-image-requires c κs = search needs
 
+sub-if1 : tie.Need-sub-if1
+sub-if1 c = search needs
+
+sub-if1-2 : tie.Need-sub-if1-2
+sub-if1-2 c = search needs
+
+add-if1 : tie.Need-add-if1
+add-if1 c = let n = short c in omega arith
+
 add-stopped : tie.Need-add-stopped
 add-stopped c = search needs
 
@@ -40,29 +53,11 @@ stopped-requires c κs = search needs
 returns : tie.Need-returns
 returns c = let s = c .before .before .before .before .before .before .before .before .before .before .before in (stays _ _ _ (c .stopped .ensures .0) (s .pre .1), c .stopped .ensures .1)
 
-sub-if2 : tie.Need-sub-if2
-sub-if2 c = search needs
-
-sub-if2-2 : tie.Need-sub-if2-2
-sub-if2-2 c = search needs
-
-add-if2 : tie.Need-add-if2
-add-if2 c = search needs
-
-add-stopped-2 : tie.Need-add-stopped-2
-add-stopped-2 c = search needs
-
-stopped-requires-2 : tie.Need-stopped-requires-2
-stopped-requires-2 c κs = search needs
-
-returns-2 : tie.Need-returns-2
-returns-2 c = let s = c .before .before .before .before .before .before .before .before .before .before .before .before in (stays _ _ _ (c .stopped2 .ensures .0) (s .pre .1), c .stopped2 .ensures .1)
-
 cast-write-number : tie.Need-cast-write-number
-cast-write-number c = search needs
+cast-write-number c = let n = short (c .before .before) in omega arith
 
 write-number-requires : tie.Need-write-number-requires
-write-number-requires c κs = search needs
+write-number-requires c κs = let n = short (c .before .before) in (omega arith, omega arith)
 
 add-put-bytes : tie.Need-add-put-bytes
 add-put-bytes c = search needs
@@ -70,22 +65,22 @@ add-put-bytes c = search needs
 put-bytes-requires : tie.Need-put-bytes-requires
 put-bytes-requires c κs = search needs
 
-add-t14 : tie.Need-add-t14
-add-t14 c = search needs
+add-next : tie.Need-add-next
+add-next c = search needs
 
-add-t18 : tie.Need-add-t18
-add-t18 c = search needs
+add-to : tie.Need-add-to
+add-to c = search needs
 
-add-t19 : tie.Need-add-t19
-add-t19 c = search needs
+add-to-2 : tie.Need-add-to-2
+add-to-2 c = search needs
 
 same-length : tie.Need-same-length
 same-length c = search needs
 
-returns-3 : tie.Need-returns-3
-returns-3 c =
-    let a = c .before .before .before .before .before .before .before .before .before .before .before .before .before .before .before .before .before .before .before .args in
-    let n = length (c .before .before .before .before .before .before .before .before .before .before .row-of-image .result .now) in
+returns-2 : tie.Need-returns-2
+returns-2 c =
+    let a = c .before .before .before .before .before .before .before .before .before .before .before .before .before .before .before .before .before .before .args in
+    let n = length (c .before .before .before .before .before .before .before .before .before .row-of-image .result .now) in
     let p = c .before .before .put-bytes in
     let w = c .before .before .before .before .before .before .write-number in (
       record {
@@ -107,21 +102,18 @@ row-step-spec =
     row-refusal-requires
     row-read-requires
     row-of-image-requires
+    sub-if1
+    sub-if1-2
+    add-if1
     add-stopped
     stopped-requires
     returns
-    sub-if2
-    sub-if2-2
-    add-if2
-    add-stopped-2
-    stopped-requires-2
-    returns-2
     cast-write-number
     write-number-requires
     add-put-bytes
     put-bytes-requires
-    add-t14
-    add-t18
-    add-t19
+    add-next
+    add-to
+    add-to-2
     same-length
-    returns-3)
+    returns-2)

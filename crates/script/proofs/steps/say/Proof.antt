@@ -1,5 +1,5 @@
 -- `say` writes an answer where the end still fits after it. Assumes nothing.
-use Rattle.script.proofs.Going.{there-is, stays, end-from, end-to, composed-kept}
+use Rattle.script.proofs.Going.{stays}
 use borrow.Author.Needs.{needs}
 use Rattle.script.proofs.steps.say.Statement.{statement}
 use Rattle.script.proofs.steps.say.Tie as tie

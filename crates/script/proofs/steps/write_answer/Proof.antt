@@ -2,8 +2,8 @@
 use Prim.Native.Nat.{_+_, _*_}
 use mathlib.Core.Path.{_≡_, refl, sym, subst}
 use native.Mathlib.Omega.{arith}
-use Rattle.script.specs.Bytes.{Kept}
-use Rattle.script.proofs.Keeping.{kept-trans, kept-later, word-kept}
+use Rattle.wire.specs.Bytes.{Kept}
+use Rattle.wire.proofs.Keeping.{kept-trans, kept-later, word-kept}
 use borrow.Author.Needs.{needs}
 use Rattle.script.proofs.steps.write_answer.Statement.{statement}
 use Rattle.script.proofs.steps.write_answer.Tie as tie

@@ -2,8 +2,8 @@
 use Prim.Native.Nat.{_+_, _-_, _*_, _≤_}
 use native.Mathlib.Omega.{arith}
 use mathlib.Core.Path.{_≡_, refl, sym, ap, _∙_, subst}
-use Rattle.script.specs.Bytes.{Kept}
-use Rattle.script.proofs.Keeping.{kept-none, kept-trans, kept-later, kept-as, as-word-kept}
+use Rattle.wire.specs.Bytes.{Kept}
+use Rattle.wire.proofs.Keeping.{kept-none, kept-trans, kept-later, kept-as, as-word-kept}
 use borrow.Author.Needs.{needs}
 use Rattle.script.proofs.steps.write_number.Statement.{statement}
 use Rattle.script.proofs.steps.write_number.Tie as tie

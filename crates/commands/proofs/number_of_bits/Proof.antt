@@ -1,0 +1,23 @@
+-- `number_of_bits` makes no NaN of its bits. Assumes nothing.
+use mathlib.Core.Path.{_≡_, sym, subst}
+use mathlib.Core.Bool.{false, not}
+use lib.Dec.{T}
+use lib.Ieee.{nanBits, binary32}
+use borrow.Author.Needs.{needs}
+use Rattle.commands.proofs.number_of_bits.Statement.{statement}
+use Rattle.commands.proofs.number_of_bits.Tie as tie
+
+returns : tie.Need-returns
+returns c = search needs
+
+float-from-bits-result : tie.Need-float-from-bits-result
+unfolding nanBits
+float-from-bits-result c =
+    let z : nanBits binary32 (c .before .args .bits) ≡ false = c .if1 .left in
+    subst (λ b. T (not b)) (sym z) tt
+
+returns-2 : tie.Need-returns-2
+returns-2 c = search needs
+
+pub number-of-bits-spec : {M : Type 1} → statement M
+number-of-bits-spec = tie.close (tie.spec returns float-from-bits-result returns-2)

@@ -1,0 +1,43 @@
+-- `checked` gives the words of each case. Assumes nothing.
+use mathlib.Core.Path.{refl}
+use native.Mathlib.Omega.{arith}
+use borrow.Author.Needs.{needs}
+use Rattle.wire.proofs.answers.checked.Statement.{statement}
+use Rattle.wire.proofs.answers.checked.Tie as tie
+
+enum-told : tie.Need-enum-told
+enum-told c = search needs
+
+done-requires : tie.Need-done-requires
+done-requires c κs = search needs
+
+enum-known-o : tie.Need-enum-known-o
+enum-known-o c = search needs
+
+enum-known-o-2 : tie.Need-enum-known-o-2
+enum-known-o-2 c = search needs
+
+refused-requires : tie.Need-refused-requires
+refused-requires c κs = search needs
+
+returns : tie.Need-returns
+returns c = rw (c .before .enum-told .given .1) (c .done .ensures)
+
+returns-2 : tie.Need-returns-2
+returns-2 c = rw (c .before .o .given .1) (record { few = omega arith; words = refl })
+
+returns-3 : tie.Need-returns-3
+returns-3 c = rw (c .before .before .o2 .given .1) (c .refused .ensures)
+
+pub checked-spec : {M : Type 1} → statement M
+checked-spec =
+    tie.close
+    (tie.spec
+    enum-told
+    done-requires
+    enum-known-o
+    enum-known-o-2
+    refused-requires
+    returns
+    returns-2
+    returns-3)
