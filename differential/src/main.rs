@@ -1,0 +1,152 @@
+//! Compares texture_packer 0.30.0 with the proved library. README.md says what is compared and how.
+
+mod case;
+mod compare;
+mod expect;
+mod generate;
+mod library;
+mod options;
+mod packer;
+mod random;
+mod script;
+mod shrink;
+mod wrong;
+
+use case::Case;
+use compare::{compared, Counts};
+use generate::{exhaustive_case, exhaustive_stores, random_case, EXHAUSTIVE, KINDS};
+use options::Options;
+use std::time::Instant;
+use wrong::{Reading, WRONG};
+
+/// A case that differs is made smaller; only so many, since one cause differs often.
+const SHRUNK: usize = 12;
+
+#[derive(Default)]
+struct Found {
+    cases: u64,
+    smallest: Option<Case>,
+    shrunk: usize,
+}
+
+impl Found {
+    fn take(&mut self, case: &Case, reading: Reading) {
+        self.cases += 1;
+        if self.shrunk < SHRUNK {
+            self.shrunk += 1;
+            let small = shrink::smallest(case, reading);
+            if self.smallest.as_ref().map_or(true, |s| small.size() < s.size()) {
+                self.smallest = Some(small);
+            }
+        }
+    }
+
+    fn print(&self, reading: Reading) {
+        if let Some(case) = &self.smallest {
+            println!("the smallest differing input:");
+            print!("{}", case.text());
+            if let Some(d) = compared(case, reading, &mut Counts::default()) {
+                println!("  differs in {}", d.text);
+            }
+        }
+    }
+}
+
+/// The random cases; the number of those that differ.
+fn random_cases(options: &Options) -> u64 {
+    let start = Instant::now();
+    let mut counts = vec![Counts::default(); KINDS.len()];
+    let mut found = Found::default();
+    for number in options.first..options.first + options.cases {
+        let (kind, case) = random_case(options.seed, number);
+        if let Some(d) = compared(&case, Reading::Right, &mut counts[kind]) {
+            if found.cases < 3 {
+                println!("case {number} of seed {} ({}) differs in {}", options.seed, KINDS[kind], d.text);
+            }
+            found.take(&case, Reading::Right);
+        }
+    }
+    let mut all = Counts::default();
+    for (kind, c) in KINDS.iter().zip(&counts) {
+        println!("{kind}: {c}");
+        all.join(c);
+    }
+    println!("all random, without a difference: {all}");
+    found.print(Reading::Right);
+    println!("random: {} cases of seed {}, {} differ, {:.1} s", options.cases, options.seed, found.cases, start.elapsed().as_secs_f32());
+    found.cases
+}
+
+/// The exhaustive small cases; the number of those that differ.
+fn exhaustive_cases() -> u64 {
+    let start = Instant::now();
+    let stores = exhaustive_stores();
+    let mut counts = Counts::default();
+    let mut found = Found::default();
+    for number in 0..EXHAUSTIVE {
+        let case = exhaustive_case(number, &stores);
+        if compared(&case, Reading::Right, &mut counts).is_some() {
+            found.take(&case, Reading::Right);
+        }
+    }
+    println!("exhaustive, without a difference: {counts}");
+    found.print(Reading::Right);
+    println!(
+        "exhaustive: every triple of sizes up to 4x4 on maxima up to 5x6, rotation off and on: {EXHAUSTIVE} cases, {} differ, {:.1} s",
+        found.cases,
+        start.elapsed().as_secs_f32()
+    );
+    found.cases
+}
+
+/// Each wrong reading has to be found; the number of those that are not.
+fn shown_to_see(options: &Options) -> u64 {
+    let mut unseen = 0;
+    for (reading, name) in WRONG {
+        let differing = (0..options.cases).find_map(|number| {
+            let (_, case) = random_case(options.seed, number);
+            compared(&case, reading, &mut Counts::default()).map(|d| (number, case, d))
+        });
+        match differing {
+            None => {
+                unseen += 1;
+                println!("NOT FOUND in {} cases: {name}", options.cases);
+            }
+            Some((number, case, _)) => {
+                let small = shrink::smallest(&case, reading);
+                println!("found in case {number}: {name}");
+                if options.verbose {
+                    print!("{}", small.text());
+                    if let Some(d) = compared(&small, reading, &mut Counts::default()) {
+                        println!("  differs in {}", d.text);
+                    }
+                }
+            }
+        }
+    }
+    println!("wrong readings: {} switched on, {} found, {unseen} not found", WRONG.len(), WRONG.len() as u64 - unseen);
+    unseen
+}
+
+fn main() {
+    let options = match Options::read(std::env::args().skip(1)) {
+        Ok(options) => options,
+        Err(text) => {
+            eprintln!("{text}");
+            std::process::exit(2);
+        }
+    };
+    // a panic of the crate is reported as a difference
+    std::panic::set_hook(Box::new(|_| {}));
+    let mut failures = 0;
+    if options.show_that_it_sees {
+        failures += shown_to_see(&options);
+    } else {
+        if options.exhaustive {
+            failures += exhaustive_cases();
+        }
+        failures += random_cases(&options);
+    }
+    println!("{}", if failures == 0 { "no difference" } else { "FAILED" });
+    std::process::exit(i32::from(failures > 0));
+}

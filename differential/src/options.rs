@@ -1,0 +1,32 @@
+//! The options of the command line.
+
+pub struct Options {
+    pub cases: u64,
+    pub first: u64,
+    pub seed: u64,
+    pub exhaustive: bool,
+    pub show_that_it_sees: bool,
+    pub verbose: bool,
+}
+
+const USAGE: &str = "run [--cases N] [--first N] [--seed S] [--no-exhaustive] [--show-that-it-sees] [--verbose]";
+
+impl Options {
+    pub fn read(words: impl Iterator<Item = String>) -> Result<Options, String> {
+        let mut o = Options { cases: 20_000, first: 0, seed: 1, exhaustive: true, show_that_it_sees: false, verbose: false };
+        let mut words = words;
+        while let Some(word) = words.next() {
+            let mut number = || words.next().and_then(|n| n.parse::<u64>().ok()).ok_or(format!("{word} takes a number\n{USAGE}"));
+            match word.as_str() {
+                "--cases" => o.cases = number()?,
+                "--first" => o.first = number()?,
+                "--seed" => o.seed = number()?,
+                "--no-exhaustive" => o.exhaustive = false,
+                "--show-that-it-sees" => o.show_that_it_sees = true,
+                "--verbose" => o.verbose = true,
+                _ => return Err(format!("no option {word}\n{USAGE}")),
+            }
+        }
+        Ok(o)
+    }
+}
