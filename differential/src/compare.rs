@@ -148,7 +148,8 @@ fn named(script: &Script, answers: &[u8]) -> Difference {
         None => Difference { text: "the library writes more than was asked for".to_string() },
         Some(n) => {
             let about = script.answers[n].1;
-            let (crates, ours) = (script.answer(n, &script.expected), script.answer(n, answers));
+            let crates = script.answer(n, &script.expected);
+            let ours = whole_answer(&answers[script.answers[n].0.min(answers.len())..]);
             let first = crates.iter().zip(ours).take_while(|(a, b)| a == b).count();
             let text = format!(
                 "{about:?}\n    by the crate    {}\n    by the library  {}\n    from byte {first} of the answer",
@@ -158,6 +159,12 @@ fn named(script: &Script, answers: &[u8]) -> Difference {
             Difference { text }
         }
     }
+}
+
+/// The answer at the start of what was written, by the length that it gives itself.
+fn whole_answer(written: &[u8]) -> &[u8] {
+    let length = written.get(..4).map_or(0, |b| u32::from_le_bytes([b[0], b[1], b[2], b[3]]) as usize);
+    &written[..(4 + 4 * length).min(written.len())]
 }
 
 fn panicked(what: Box<dyn std::any::Any + Send>) -> String {
