@@ -124,7 +124,8 @@ impl Case {
         let c = &self.config;
         let switches = [c.rotation, c.trim, c.outlines, c.forced].iter().filter(|b| **b).count() as u64;
         let steps: u64 = self.steps.iter().map(step_size).sum();
-        steps + 20 * switches + u64::from(c.width + c.height) + 10 * u64::from(c.padding + c.border + c.extrusion)
+        let distances = u64::from(c.padding + c.border + c.extrusion);
+        steps + 20 * switches + 10 * distances + u64::from(c.width + c.height + c.pages + c.images)
     }
 
     pub fn text(&self) -> String {

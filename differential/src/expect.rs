@@ -52,7 +52,7 @@ fn turn_of(frame: &Frame<u32>) -> u32 {
     u32::from(frame.rotated)
 }
 
-/// The first place at which two runs of bytes differ in a byte that was changed by `changed`.
+/// The same bytes with one changed.
 fn other(bytes: &[u8], place: usize) -> Vec<u8> {
     let mut b = bytes.to_vec();
     b[place] ^= 0x40;
@@ -77,8 +77,9 @@ impl Run<'_> {
             Packed::TooLarge => vec![8],
             Packed::Placed(page, frame) => {
                 let limit = config.pages + u32::from(self.reading == Reading::PageLimitOneMore);
+                let images = config.images + u32::from(self.reading == Reading::ImageLimitOneMore);
                 // the crate has no limits, so it holds an image too many after these two
-                if self.standing.len() as u32 == config.images {
+                if self.standing.len() as u32 == images {
                     self.stale = true;
                     vec![9]
                 } else if page >= limit {
@@ -239,7 +240,9 @@ impl Run<'_> {
         match image.expect("the crate exports a page that has rows") {
             DynamicImage::ImageRgba8(i) => {
                 let mut bytes = i.into_raw();
-                self.misread(&mut bytes, background);
+                if self.reading == Reading::HoleWithoutBackground && background.is_some() {
+                    self.empty_holes(&mut bytes, &self.window(page, size, first, rows));
+                }
                 bytes
             }
             _ => panic!("the crate exports another form"),
@@ -255,10 +258,11 @@ impl Run<'_> {
         BackgroundColorSettings { color: Rgba(g.color), region_transparency_threshold: threshold, discard_own_alpha_on_threshold_test: g.discard }
     }
 
-    fn misread(&self, bytes: &mut [u8], background: Option<Background>) {
-        if let (Reading::HoleWithoutBackground, Some(g)) = (self.reading, background) {
-            for p in bytes.chunks_mut(4).filter(|p| *p == g.color) {
-                p.fill(0);
+    fn empty_holes(&self, bytes: &mut [u8], window: &Window) {
+        for (place, pixel) in bytes.chunks_mut(4).enumerate() {
+            let (x, y) = (place as u32 % window.size.0, place as u32 / window.size.0);
+            if window.get(x, y).is_none() {
+                pixel.fill(0);
             }
         }
     }

@@ -175,8 +175,14 @@ fn look(random: &mut Random) -> Step {
     Step::Look(Look { background: Background { color, threshold, discard: random.once_in(2) }, seed: random.next() })
 }
 
+/// A side; most are no longer than the maxima leave room for.
 fn side(shape: &Shape, random: &mut Random) -> u32 {
-    let (low, high) = shape.sides;
+    let c = &shape.config;
+    let (low, mut high) = shape.sides;
+    let room = c.width.min(c.height).saturating_sub(1 + c.padding + 2 * c.extrusion).max(1);
+    if !random.once_in(12) {
+        high = high.min(room);
+    }
     // half of the large sides are small ones
     if high > 64 && random.once_in(2) {
         random.within(low, 64)

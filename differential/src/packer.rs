@@ -1,9 +1,9 @@
 //! The crate, driven as its users drive it.
 
 use crate::case::{Art, Case, Config, Image};
+use crate::sketch::Sketch;
 use crate::wrong::Reading;
 use image::Rgba;
-use std::rc::Rc;
 use texture_packer::texture::Texture;
 use texture_packer::{Frame, MultiTexturePacker, TexturePacker, TexturePackerConfig};
 
@@ -23,14 +23,13 @@ pub enum Packed {
     TooLarge,
 }
 
-/// The crate's packer; one wrong reading has a page loop of its own.
+/// The crate's packer; a wrong order of placing has one of its own.
 enum Pages {
     Multi(MultiTexturePacker<'static, Art, u32>),
-    LastOnly(Vec<Page>),
+    Sketch(Sketch),
 }
 
 pub struct Packer {
-    config: TexturePackerConfig,
     pages: Pages,
     reading: Reading,
 }
@@ -42,7 +41,6 @@ fn configured(c: &Config, reading: Reading) -> TexturePackerConfig {
         Reading::PaddingDroppedAtRightEdge => k.max_width += c.padding,
         Reading::ExtrusionOnOneSide => k.texture_extrusion = c.extrusion / 2,
         Reading::LastRowUsed => k.max_height += 1,
-        Reading::WholeCellPlaced => k.trim = false,
         Reading::ForcedSizeIgnored => k.force_max_dimensions = false,
         Reading::CanvasLessBorder => {
             k.max_width = c.width.saturating_sub(2 * c.border).max(1);
@@ -55,12 +53,11 @@ fn configured(c: &Config, reading: Reading) -> TexturePackerConfig {
 
 impl Packer {
     pub fn new(c: &Config, reading: Reading) -> Packer {
-        let config = configured(c, reading);
-        let pages = match reading {
-            Reading::OnlyLastPageTried => Pages::LastOnly(Vec::new()),
-            _ => Pages::Multi(MultiTexturePacker::new_skyline(config)),
+        let pages = match reading.sketched() {
+            true => Pages::Sketch(Sketch::new(*c, reading)),
+            false => Pages::Multi(MultiTexturePacker::new_skyline(configured(c, reading))),
         };
-        Packer { config, pages, reading }
+        Packer { pages, reading }
     }
 
     /// A fresh run over what stands.
@@ -75,83 +72,41 @@ impl Packer {
     pub fn pages(&self) -> &[Page] {
         match &self.pages {
             Pages::Multi(m) => m.get_pages(),
-            Pages::LastOnly(p) => p,
+            Pages::Sketch(_) => &[],
         }
     }
 
     pub fn pack(&mut self, case: &Case, image: &Image) -> Packed {
-        let (art, corner) = read_as(case, image, self.reading);
-        let result = match &mut self.pages {
-            Pages::Multi(m) => m.pack_own(image.key, art).map_err(|e| format!("{e:?}")),
-            Pages::LastOnly(p) => pack_last(p, self.config, image.key, art),
-        };
-        // the crate does not export the type of its errors, only their names can be read
-        match result.as_ref().err().map(String::as_str) {
-            None => self.placed(image, corner),
-            Some("TextureEmpty") => Packed::Empty,
-            Some("TextureTooLargeToFitIntoAtlas") => Packed::TooLarge,
-            Some(other) => panic!("the crate answers {other}"),
+        match &mut self.pages {
+            Pages::Multi(m) => packed(m, image.key, read_as(case, image, self.reading)),
+            Pages::Sketch(s) => s.pack(image, &case.art(image)),
         }
-    }
-
-    fn placed(&self, image: &Image, corner: (u32, u32)) -> Packed {
-        let found = self.pages().iter().enumerate().find_map(|(n, p)| p.get_frame(&image.key).map(|f| (n as u32, f.clone())));
-        let (page, mut frame) = found.expect("the crate packs an image and has no frame of it");
-        if self.reading == Reading::PageByTrimmedSize {
-            frame.source.x += corner.0;
-            frame.source.y += corner.1;
-            frame.source.w = image.w;
-            frame.source.h = image.h;
-        }
-        Packed::Placed(page, frame)
     }
 }
 
-fn pack_last(pages: &mut Vec<Page>, config: TexturePackerConfig, key: u32, art: Art) -> Result<(), String> {
-    if let Some(last) = pages.last_mut() {
-        if last.can_pack(&art) {
-            return last.pack_own(key, art).map_err(|e| format!("{e:?}"));
+fn packed(multi: &mut MultiTexturePacker<'static, Art, u32>, key: u32, art: Art) -> Packed {
+    // the crate does not export the type of its errors, only their names can be read
+    match multi.pack_own(key, art).map_err(|e| format!("{e:?}")).err().as_deref() {
+        None => {
+            let found = multi.get_pages().iter().enumerate().find_map(|(n, p)| p.get_frame(&key).map(|f| (n as u32, f.clone())));
+            let (page, frame) = found.expect("the crate packs an image and has no frame of it");
+            Packed::Placed(page, frame)
         }
-    }
-    let mut page = TexturePacker::new_skyline(config);
-    page.pack_own(key, art).map_err(|e| format!("{e:?}"))?;
-    pages.push(page);
-    Ok(())
-}
-
-/// The image that the crate is given, and the corner that a wrong reading has cut off.
-fn read_as(case: &Case, image: &Image, reading: Reading) -> (Art, (u32, u32)) {
-    let art = case.art(image);
-    match reading {
-        Reading::StoresSwapped => {
-            let other = case.art(&Image { wording: !image.wording, ..*image });
-            (if other.at(image.w - 1, image.h - 1).is_some() { other } else { art }, (0, 0))
-        }
-        Reading::VisibleMeansOpaque => (made(&art, 0, 0, art.w, art.h, |p| if p[3] < 255 { [p[0], p[1], p[2], 0] } else { p }), (0, 0)),
-        Reading::PageByTrimmedSize if case.config.trim => match visible_box(&art) {
-            Some((x, y, w, h)) => (made(&art, x, y, w, h, |p| p), (x, y)),
-            None => (art, (0, 0)),
-        },
-        _ => (art, (0, 0)),
+        Some("TextureEmpty") => Packed::Empty,
+        Some("TextureTooLargeToFitIntoAtlas") => Packed::TooLarge,
+        Some(other) => panic!("the crate answers {other}"),
     }
 }
 
-fn made(art: &Art, x: u32, y: u32, w: u32, h: u32, change: impl Fn([u8; 4]) -> [u8; 4]) -> Art {
-    let mut bytes = Vec::new();
-    for row in y..y + h {
-        for column in x..x + w {
-            bytes.extend_from_slice(&change(art.at(column, row).unwrap_or([0; 4])));
+/// The image that the crate is given.
+fn read_as(case: &Case, image: &Image, reading: Reading) -> Art {
+    if reading == Reading::StoresSwapped {
+        let other = case.art(&Image { wording: !image.wording, ..*image });
+        if other.at(image.w - 1, image.h - 1).is_some() {
+            return other;
         }
     }
-    Art { store: Rc::new(bytes), offset: 0, w, h }
-}
-
-fn visible_box(art: &Art) -> Option<(u32, u32, u32, u32)> {
-    let seen = |x: u32, y: u32| art.at(x, y).is_some_and(|p| p[3] != 0);
-    let rows: Vec<u32> = (0..art.h).filter(|&y| (0..art.w).any(|x| seen(x, y))).collect();
-    let columns: Vec<u32> = (0..art.w).filter(|&x| (0..art.h).any(|y| seen(x, y))).collect();
-    let (x, y) = (*columns.first()?, *rows.first()?);
-    Some((x, y, columns[columns.len() - 1] - x + 1, rows[rows.len() - 1] - y + 1))
+    case.art(image)
 }
 
 /// Some rows of a page of the crate, as a texture of their own, so that its exporter composes them.

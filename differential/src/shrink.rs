@@ -71,8 +71,33 @@ impl Shrinking {
         less > 0 && self.takes(case)
     }
 
+    /// An image and the canvas smaller together, where neither alone still differs.
+    fn with_less_of_both(&mut self) -> bool {
+        let mut smaller = false;
+        for place in 0..self.best.steps.len() {
+            for (image_w, image_h, w, h) in [(1, 0, 1, 0), (0, 1, 0, 1), (1, 0, 0, 1), (0, 1, 1, 0), (1, 1, 1, 1)] {
+                loop {
+                    let mut case = self.best.clone();
+                    let Some(Step::Offer(image)) = case.steps.get_mut(place) else { break };
+                    if image.w <= image_w || image.h <= image_h || case.config.width <= w || case.config.height <= h {
+                        break;
+                    }
+                    image.w -= image_w;
+                    image.h -= image_h;
+                    case.config.width -= w;
+                    case.config.height -= h;
+                    if !self.takes(case) {
+                        break;
+                    }
+                    smaller = true;
+                }
+            }
+        }
+        smaller
+    }
+
     fn with_simpler_config(&mut self) -> bool {
-        let changes: [fn(&mut Config); 15] = [
+        let changes: [fn(&mut Config); 19] = [
             |c| c.rotation = false,
             |c| c.trim = false,
             |c| c.outlines = false,
@@ -87,6 +112,10 @@ impl Shrinking {
             |c| c.height = c.height.div_ceil(2),
             |c| c.width = (c.width - 1).max(1),
             |c| c.height = (c.height - 1).max(1),
+            |c| c.pages = 1,
+            |c| c.pages = (c.pages - 1).max(1),
+            |c| c.images = c.images.div_ceil(2),
+            |c| c.images = (c.images - 1).max(1),
             |c| (c.width, c.height) = ((c.width - 1).max(1), (c.height - 1).max(1)),
         ];
         let mut smaller = false;
@@ -104,10 +133,10 @@ impl Shrinking {
     }
 }
 
-/// Images of a small case each at the start of a store of their own bytes, which reads better.
+/// The smallest case that was found to differ still.
 pub fn smallest(case: &Case, reading: Reading) -> Case {
     let mut shrinking = Shrinking { best: case.clone(), reading, tries: TRIES };
-    while shrinking.without_steps() | shrinking.with_simpler_config() | shrinking.with_smaller_images() {}
+    while shrinking.without_steps() | shrinking.with_simpler_config() | shrinking.with_smaller_images() | shrinking.with_less_of_both() {}
     tidied(shrinking.best, reading)
 }
 
