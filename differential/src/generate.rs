@@ -120,6 +120,11 @@ fn large(mut config: Config, random: &mut Random) -> Shape {
         config.width = 4096;
         config.height = 4096;
     }
+    if random.once_in(2) {
+        config.padding = random.within(0, 64);
+        config.border = random.within(0, 64);
+        config.extrusion = random.within(0, 16);
+    }
     let alpha = random.pick(&[Alpha::Opaque, Alpha::Any, Alpha::Margins]);
     let sides = (1, random.pick(&[64, 200, 2048]));
     Shape { config, images: random.within(1, if sides.1 == 2048 { 6 } else { 40 }), sides, alpha, looks: 60 }

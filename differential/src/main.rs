@@ -3,6 +3,7 @@
 mod case;
 mod compare;
 mod expect;
+mod files;
 mod generate;
 mod library;
 mod options;
@@ -146,6 +147,13 @@ fn main() {
     };
     // a panic of the crate is reported as a difference
     std::panic::set_hook(Box::new(|_| {}));
+    if let Some(folder) = &options.write {
+        if let Err(error) = files::write_cases(folder.as_ref(), options.count, options.largest, &options) {
+            eprintln!("{error}");
+            std::process::exit(1);
+        }
+        return;
+    }
     if options.cases == 0 && (options.show_that_it_sees || !options.exhaustive) {
         eprintln!("nothing to compare");
         std::process::exit(2);
