@@ -24,19 +24,7 @@ pub struct Config {
 impl Config {
     /// All switches off and all distances 0.
     pub fn plain(width: u32, height: u32) -> Config {
-        Config {
-            width,
-            height,
-            padding: 0,
-            border: 0,
-            extrusion: 0,
-            pages: 8,
-            images: 256,
-            rotation: false,
-            trim: false,
-            outlines: false,
-            forced: false,
-        }
+        Config { width, height, padding: 0, border: 0, extrusion: 0, pages: 8, images: 256, rotation: false, trim: false, outlines: false, forced: false }
     }
 
     /// The crate has no limit of pages or images.

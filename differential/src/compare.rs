@@ -40,7 +40,7 @@ impl Counts {
                 script.expected.get(at..at + 4).map_or(0, |b| u32::from_le_bytes([b[0], b[1], b[2], b[3]]))
             };
             match about {
-                About::Open | About::End => {}
+                About::Open | About::TrimmedMarks | About::End => {}
                 About::Ask { .. } => self.asks += 1,
                 About::Offer { .. } => self.offer([word(1), word(2), word(7)], case),
                 About::Withdraw => self.withdrawals += 1,
@@ -151,11 +151,7 @@ fn named(script: &Script, answers: &[u8]) -> Difference {
             let crates = script.answer(n, &script.expected);
             let ours = whole_answer(&answers[script.answers[n].0.min(answers.len())..]);
             let first = crates.iter().zip(ours).take_while(|(a, b)| a == b).count();
-            let text = format!(
-                "{about:?}\n    by the crate    {}\n    by the library  {}\n    from byte {first} of the answer",
-                words(crates),
-                words(ours)
-            );
+            let text = format!("{about:?}\n    by the crate    {}\n    by the library  {}\n    from byte {first} of the answer", words(crates), words(ours));
             Difference { text }
         }
     }

@@ -1,9 +1,10 @@
 //! A case run on the crate: the script for the library, and the answers that the crate's make us expect.
 
 use crate::case::{Art, Background, Case, Image, Look, Step};
+use crate::formulas::{edges, fits_alone};
 use crate::packer::{Packed, Packer, Standing, Window};
 use crate::random::Random;
-use crate::script::Script;
+use crate::script::{Corner, Script};
 use crate::wrong::Reading;
 use image::{DynamicImage, Rgba};
 use texture_packer::exporter::{BackgroundColorSettings, ImageExporter};
@@ -27,14 +28,7 @@ struct Run<'c> {
 
 /// What the crate does with a case.
 pub fn expect(case: &Case, reading: Reading) -> Script {
-    let mut run = Run {
-        case,
-        reading,
-        packer: Packer::new(&case.config, reading),
-        standing: Vec::new(),
-        stale: false,
-        script: Script::new(),
-    };
+    let mut run = Run { case, reading, packer: Packer::new(&case.config, reading), standing: Vec::new(), stale: false, script: Script::new() };
     run.script.open(&case.config, &[0]);
     for step in &case.steps {
         match step {
@@ -163,15 +157,7 @@ impl Run<'_> {
 
     fn window(&self, page: u32, size: (u32, u32), first: u32, rows: u32) -> Window<'_> {
         let c = &self.case.config;
-        Window {
-            page: &self.packer.pages()[page as usize],
-            size,
-            first,
-            rows,
-            extrusion: c.extrusion,
-            outlines: c.outlines,
-            reading: self.reading,
-        }
+        Window { page: &self.packer.pages()[page as usize], size, first, rows, extrusion: c.extrusion, outlines: c.outlines, reading: self.reading }
     }
 
     /// Every pixel of a small page and of some columns and rows past its edge; of a large one pixels about the frames' edges and anywhere.
@@ -269,7 +255,7 @@ impl Run<'_> {
 
     /// For each standing image its whole rows, its coordinates, and what its frame's corners show of its source.
     fn records(&mut self, random: &mut Random) {
-        let mut looks = Vec::new();
+        let mut corners = Vec::new();
         for s in &self.standing {
             let art = self.case.art(&s.image);
             let key = s.image.key;
@@ -291,27 +277,14 @@ impl Run<'_> {
                 false => ((0, 0), (f.w - 1, f.h - 1)),
                 true => ((0, f.w - 1), (f.h - 1, 0)),
             };
-            looks.push((key, s.page, f.x, f.y, art.at(corner.0 + first.0, corner.1 + first.1)));
-            looks.push((key, s.page, f.x + f.w - 1, f.y + f.h - 1, art.at(corner.0 + last.0, corner.1 + last.1)));
+            let shown = |place: (u32, u32)| art.at(corner.0 + place.0, corner.1 + place.1);
+            corners.push(Corner { key, page: s.page, x: f.x, y: f.y, seen: shown(first) });
+            corners.push(Corner { key, page: s.page, x: f.x + f.w - 1, y: f.y + f.h - 1, seen: shown(last) });
         }
-        self.script.sources(&self.case.config, &looks);
+        self.script.sources(&self.case.config, &corners);
+        if !self.standing.is_empty() {
+            assert!(self.standing.iter().all(|s| s.frame.trimmed == self.case.config.trim), "a trimmed mark is not the switch");
+            self.script.trimmed_marks(&self.case.config);
+        }
     }
-}
-
-fn fits_alone(case: &Case, image: &Image) -> bool {
-    let c = &case.config;
-    let around = c.padding + 2 * c.extrusion;
-    let (w, h) = (image.w + around, image.h + around);
-    let fits = |w: u32, h: u32| w <= c.width && h < c.height;
-    fits(w, h) || c.rotation && fits(h, w)
-}
-
-/// Document 01's coordinates of a frame on a page; the crate has none, its frame and page size are what is compared here.
-fn edges(x: u32, y: u32, w: u32, h: u32, size: (u32, u32), inset: f32) -> Vec<u32> {
-    if x + w > size.0 || y + h > size.1 {
-        return vec![16];
-    }
-    let low = |at: u32, side: u32| ((at as f32 + inset) / side as f32).to_bits();
-    let high = |at: u32, side: u32| ((at as f32 - inset) / side as f32).to_bits();
-    vec![0, 1, low(x, size.0), low(y, size.1), high(x + w, size.0), high(y + h, size.1)]
 }

@@ -18,16 +18,7 @@ pub fn run(script: &[u8], symbols: &[u8], wording: &[u8], room: usize) -> Vec<u8
     let mut answers = vec![0xa5u8; room];
     // The four parts are borrowed for the whole call, `answers` alone is written to, and none overlaps another.
     let written = unsafe {
-        firmeskal_run(
-            script.as_ptr(),
-            script.len(),
-            symbols.as_ptr(),
-            symbols.len(),
-            wording.as_ptr(),
-            wording.len(),
-            answers.as_mut_ptr(),
-            answers.len(),
-        )
+        firmeskal_run(script.as_ptr(), script.len(), symbols.as_ptr(), symbols.len(), wording.as_ptr(), wording.len(), answers.as_mut_ptr(), answers.len())
     };
     answers.truncate(written);
     answers

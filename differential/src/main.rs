@@ -4,6 +4,7 @@ mod case;
 mod compare;
 mod expect;
 mod files;
+mod formulas;
 mod generate;
 mod library;
 mod options;
@@ -37,7 +38,7 @@ impl Found {
         if self.shrunk < SHRUNK {
             self.shrunk += 1;
             let small = shrink::smallest(case, reading);
-            if self.smallest.as_ref().map_or(true, |s| small.size() < s.size()) {
+            if self.smallest.as_ref().is_none_or(|s| small.size() < s.size()) {
                 self.smallest = Some(small);
             }
         }

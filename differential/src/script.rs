@@ -16,7 +16,17 @@ pub enum About {
     ImageRow { key: u32, row: u32 },
     Coordinates { key: u32, request: u32 },
     Source { key: u32, x: u32, y: u32 },
+    TrimmedMarks,
     End,
+}
+
+/// A pixel of a page that shows a pixel of the source of the image with this key.
+pub struct Corner {
+    pub key: u32,
+    pub page: u32,
+    pub x: u32,
+    pub y: u32,
+    pub seen: Option<[u8; 4]>,
 }
 
 pub struct Script {
@@ -132,14 +142,21 @@ impl Script {
         self.expect(About::Coordinates { key, request }, answer);
     }
 
-    /// Extrusion and outlines are off for the pixels that `looks` asks for, so that a frame shows its source and nothing else.
-    pub fn sources(&mut self, c: &Config, looks: &[(u32, u32, u32, u32, Option<[u8; 4]>)]) {
+    /// Extrusion and outlines are off for the corners' pixels, so that a frame shows its source and nothing else.
+    pub fn sources(&mut self, c: &Config, corners: &[Corner]) {
         push(&mut self.bytes, &[10, 4, 0, 0, 10, 9, 0, 0]);
-        for &(key, page, x, y, seen) in looks {
+        for &Corner { key, page, x, y, seen } in corners {
             push(&mut self.bytes, &[5, page, x, y]);
             self.expect_pixel(About::Source { key, x, y }, seen);
         }
         push(&mut self.bytes, &[10, 4, 0, c.extrusion, 10, 9, 0, u32::from(c.outlines)]);
+    }
+
+    /// With the trim switch set the other way no record has the mark that it wants, so the layout is not well-formed for a moment.
+    pub fn trimmed_marks(&mut self, c: &Config) {
+        push(&mut self.bytes, &[10, 8, 0, u32::from(!c.trim), 4, 0]);
+        self.expect(About::TrimmedMarks, &[2]);
+        push(&mut self.bytes, &[10, 8, 0, u32::from(c.trim)]);
     }
 
     pub fn end(&mut self) {
