@@ -62,54 +62,60 @@ fn limits(c: &mut Config, random: &mut Random) {
     c.images = if random.once_in(6) { random.within(1, 12) } else { 256 };
 }
 
+const ALPHAS: [Alpha; 4] = [Alpha::Opaque, Alpha::Any, Alpha::Sparse, Alpha::Margins];
+
 fn shape_of(kind: usize, random: &mut Random) -> Shape {
-    let alphas = [Alpha::Opaque, Alpha::Any, Alpha::Sparse, Alpha::Margins];
     let mut config = Config::plain(random.within(1, 48), random.within(1, 48));
     limits(&mut config, random);
     switches(&mut config, random);
     distances(&mut config, random);
     match kind {
-        0 => {
-            let alpha = random.pick(&alphas);
-            Shape { config, images: random.within(1, 16), sides: (1, 24), alpha, looks: 24 }
-        }
-        1 => {
-            config.width = random.within(1, 9);
-            config.height = random.within(1, 10);
-            config.rotation = !random.once_in(3);
-            config.padding = u32::from(random.once_in(6));
-            config.extrusion = 0;
-            config.border = u32::from(random.once_in(6));
-            config.trim = random.once_in(4);
-            Shape { config, images: random.within(2, 16), sides: (1, random.within(2, 4)), alpha: random.pick(&alphas), looks: 40 }
-        }
-        2 => {
-            config.width = random.within(8, 40);
-            config.height = random.within(8, 40);
-            config.images = random.pick(&[256, 256, 40, 20]);
-            config.padding = random.within(0, 1);
-            config.extrusion = 0;
-            let images = if random.once_in(8) { random.within(100, 270) } else { random.within(20, 70) };
-            Shape { config, images, sides: (1, random.within(3, 12)), alpha: random.pick(&alphas), looks: 80 }
-        }
-        3 => {
-            config.width = random.within(4, 32);
-            config.height = random.within(4, 32);
-            config.trim = true;
-            let alpha = random.pick(&[Alpha::Sparse, Alpha::Margins]);
-            Shape { config, images: random.within(1, 14), sides: (1, 20), alpha, looks: 24 }
-        }
-        4 => {
-            config.width = random.within(4, 30);
-            config.height = random.within(4, 30);
-            config.border = random.within(0, 4);
-            config.padding = random.within(0, 4);
-            config.extrusion = random.within(0, config.border + config.padding);
-            config.outlines = random.once_in(3);
-            Shape { config, images: random.within(1, 8), sides: (1, 7), alpha: random.pick(&alphas), looks: 12 }
-        }
+        0 => Shape { config, images: random.within(1, 16), sides: (1, 24), alpha: random.pick(&ALPHAS), looks: 24 },
+        1 => tie_rich(config, random),
+        2 => crowded(config, random),
+        3 => trimmed(config, random),
+        4 => zones(config, random),
         _ => large(config, random),
     }
+}
+
+fn tie_rich(mut config: Config, random: &mut Random) -> Shape {
+    config.width = random.within(1, 9);
+    config.height = random.within(1, 10);
+    config.rotation = !random.once_in(3);
+    config.padding = u32::from(random.once_in(6));
+    config.extrusion = 0;
+    config.border = u32::from(random.once_in(6));
+    config.trim = random.once_in(4);
+    Shape { config, images: random.within(2, 16), sides: (1, random.within(2, 4)), alpha: random.pick(&ALPHAS), looks: 40 }
+}
+
+fn crowded(mut config: Config, random: &mut Random) -> Shape {
+    config.width = random.within(8, 40);
+    config.height = random.within(8, 40);
+    config.images = random.pick(&[256, 256, 40, 20]);
+    config.padding = random.within(0, 1);
+    config.extrusion = 0;
+    let images = if random.once_in(8) { random.within(100, 270) } else { random.within(20, 70) };
+    Shape { config, images, sides: (1, random.within(3, 12)), alpha: random.pick(&ALPHAS), looks: 80 }
+}
+
+fn trimmed(mut config: Config, random: &mut Random) -> Shape {
+    config.width = random.within(4, 32);
+    config.height = random.within(4, 32);
+    config.trim = true;
+    let alpha = random.pick(&[Alpha::Sparse, Alpha::Margins]);
+    Shape { config, images: random.within(1, 14), sides: (1, 20), alpha, looks: 24 }
+}
+
+fn zones(mut config: Config, random: &mut Random) -> Shape {
+    config.width = random.within(4, 30);
+    config.height = random.within(4, 30);
+    config.border = random.within(0, 4);
+    config.padding = random.within(0, 4);
+    config.extrusion = random.within(0, config.border + config.padding);
+    config.outlines = random.once_in(3);
+    Shape { config, images: random.within(1, 8), sides: (1, 7), alpha: random.pick(&ALPHAS), looks: 12 }
 }
 
 fn large(mut config: Config, random: &mut Random) -> Shape {
