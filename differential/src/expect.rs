@@ -2,7 +2,7 @@
 
 use crate::case::{Art, Background, Case, Image, Look, Step};
 use crate::formulas::{edges, fits_alone};
-use crate::packer::{Packed, Packer, Standing, Window};
+use crate::packer::{read_as, Packed, Packer, Standing, Window};
 use crate::random::Random;
 use crate::script::{Corner, Script};
 use crate::wrong::Reading;
@@ -19,8 +19,8 @@ const EVERY_ROW: u64 = 40_000;
 struct Run<'c> {
     case: &'c Case,
     reading: Reading,
-    packer: Packer,
-    standing: Vec<Standing>,
+    packer: Packer<'c>,
+    standing: Vec<Standing<'c>>,
     /// the crate holds more than what stands
     stale: bool,
     script: Script,
@@ -28,14 +28,21 @@ struct Run<'c> {
 
 /// What the crate does with a case.
 pub fn expect(case: &Case, reading: Reading) -> Script {
-    let mut run = Run { case, reading, packer: Packer::new(&case.config, reading), standing: Vec::new(), stale: false, script: Script::new() };
+    let offered = |step: &Step| match step {
+        Step::Offer(image) => Some(read_as(case, image, reading)),
+        _ => None,
+    };
+    let arts: Vec<Option<Art>> = case.steps.iter().map(offered).collect();
+    let packer = Packer::new(&case.config, reading);
+    let mut run = Run { case, reading, packer, standing: Vec::new(), stale: false, script: Script::new() };
     run.script.open(&case.config, &[0]);
-    for step in &case.steps {
-        match step {
-            Step::Offer(image) => run.offer(image),
-            Step::Ask(page, w, h) => run.ask(*page, *w, *h),
-            Step::Withdraw => run.withdraw(),
-            Step::Look(look) => run.look(look),
+    for (step, art) in case.steps.iter().zip(&arts) {
+        match (step, art) {
+            (Step::Offer(image), Some(art)) => run.offer(image, art),
+            (Step::Ask(page, w, h), _) => run.ask(*page, *w, *h),
+            (Step::Withdraw, _) => run.withdraw(),
+            (Step::Look(look), _) => run.look(look),
+            (Step::Offer(_), None) => unreachable!("an offer has art"),
         }
     }
     run.script.end();
@@ -53,19 +60,19 @@ fn other(bytes: &[u8], place: usize) -> Vec<u8> {
     b
 }
 
-impl Run<'_> {
+impl<'c> Run<'c> {
     /// The crate over exactly what stands.
     fn refresh(&mut self) {
         if self.stale {
-            self.packer = Packer::fresh(self.case, &self.standing, self.reading);
+            self.packer = Packer::fresh(&self.case.config, &self.standing, self.reading);
             self.stale = false;
         }
     }
 
-    fn offer(&mut self, image: &Image) {
+    fn offer(&mut self, image: &Image, art: &'c Art) {
         self.refresh();
         let config = &self.case.config;
-        let answer = match self.packer.pack(self.case, image) {
+        let answer = match self.packer.pack(image, art) {
             Packed::Empty if self.reading == Reading::TooLargeBeforeClear && !fits_alone(self.case, image) => vec![8],
             Packed::Empty => vec![7],
             Packed::TooLarge => vec![8],
@@ -81,7 +88,7 @@ impl Run<'_> {
                     vec![10]
                 } else {
                     let answer = self.placed(page, &frame);
-                    self.standing.push(Standing { image: *image, page, frame });
+                    self.standing.push(Standing { image: *image, art, page, frame });
                     answer
                 }
             }

@@ -7,12 +7,12 @@ use image::Rgba;
 use texture_packer::texture::Texture;
 use texture_packer::{Frame, MultiTexturePacker, TexturePacker, TexturePackerConfig};
 
-pub type Page = TexturePacker<'static, Art, u32>;
+pub type Page<'a> = TexturePacker<'a, Art, u32>;
 
-/// A standing image, its page, and its frame as the crate tells it.
-#[derive(Clone)]
-pub struct Standing {
+/// A standing image, what the crate reads of it, its page, and its frame as the crate tells it.
+pub struct Standing<'a> {
     pub image: Image,
+    pub art: &'a Art,
     pub page: u32,
     pub frame: Frame<u32>,
 }
@@ -24,14 +24,13 @@ pub enum Packed {
 }
 
 /// The crate's packer; a wrong order of placing has one of its own.
-enum Pages {
-    Multi(MultiTexturePacker<'static, Art, u32>),
+enum Pages<'a> {
+    Multi(MultiTexturePacker<'a, Art, u32>),
     Sketch(Sketch),
 }
 
-pub struct Packer {
-    pages: Pages,
-    reading: Reading,
+pub struct Packer<'a> {
+    pages: Pages<'a>,
 }
 
 /// The configuration that the crate is given; a wrong reading may be one of another configuration.
@@ -51,42 +50,44 @@ fn configured(c: &Config, reading: Reading) -> TexturePackerConfig {
     k
 }
 
-impl Packer {
-    pub fn new(c: &Config, reading: Reading) -> Packer {
+impl<'a> Packer<'a> {
+    pub fn new(c: &Config, reading: Reading) -> Packer<'a> {
         let pages = match reading.sketched() {
             true => Pages::Sketch(Sketch::new(*c, reading)),
             false => Pages::Multi(MultiTexturePacker::new_skyline(configured(c, reading))),
         };
-        Packer { pages, reading }
+        Packer { pages }
     }
 
     /// A fresh run over what stands.
-    pub fn fresh(case: &Case, standing: &[Standing], reading: Reading) -> Packer {
-        let mut packer = Packer::new(&case.config, reading);
+    pub fn fresh(c: &Config, standing: &[Standing<'a>], reading: Reading) -> Packer<'a> {
+        let mut packer = Packer::new(c, reading);
         for s in standing {
-            packer.pack(case, &s.image);
+            packer.pack(&s.image, s.art);
         }
         packer
     }
 
-    pub fn pages(&self) -> &[Page] {
+    pub fn pages(&self) -> &[Page<'a>] {
         match &self.pages {
             Pages::Multi(m) => m.get_pages(),
             Pages::Sketch(_) => &[],
         }
     }
 
-    pub fn pack(&mut self, case: &Case, image: &Image) -> Packed {
+    pub fn pack(&mut self, image: &Image, art: &'a Art) -> Packed {
         match &mut self.pages {
-            Pages::Multi(m) => packed(m, image.key, read_as(case, image, self.reading)),
-            Pages::Sketch(s) => s.pack(image, &case.art(image)),
+            Pages::Multi(m) => packed(m, image.key, art),
+            Pages::Sketch(s) => s.pack(image, art),
         }
     }
 }
 
-fn packed(multi: &mut MultiTexturePacker<'static, Art, u32>, key: u32, art: Art) -> Packed {
+/// Even keys own their image, odd ones borrow it.
+fn packed<'a>(multi: &mut MultiTexturePacker<'a, Art, u32>, key: u32, art: &'a Art) -> Packed {
+    let result = if key.is_multiple_of(2) { multi.pack_own(key, art.clone()) } else { multi.pack_ref(key, art) };
     // the crate does not export the type of its errors, only their names can be read
-    match multi.pack_own(key, art).map_err(|e| format!("{e:?}")).err().as_deref() {
+    match result.map_err(|e| format!("{e:?}")).err().as_deref() {
         None => {
             let found = multi.get_pages().iter().enumerate().find_map(|(n, p)| p.get_frame(&key).map(|f| (n as u32, f.clone())));
             let (page, frame) = found.expect("the crate packs an image and has no frame of it");
@@ -99,7 +100,7 @@ fn packed(multi: &mut MultiTexturePacker<'static, Art, u32>, key: u32, art: Art)
 }
 
 /// The image that the crate is given.
-fn read_as(case: &Case, image: &Image, reading: Reading) -> Art {
+pub fn read_as(case: &Case, image: &Image, reading: Reading) -> Art {
     if reading == Reading::StoresSwapped {
         let other = case.art(&Image { wording: !image.wording, ..*image });
         if other.at(image.w - 1, image.h - 1).is_some() {
@@ -111,7 +112,7 @@ fn read_as(case: &Case, image: &Image, reading: Reading) -> Art {
 
 /// Some rows of a page of the crate, as a texture of their own, so that its exporter composes them.
 pub struct Window<'p> {
-    pub page: &'p Page,
+    pub page: &'p Page<'p>,
     pub size: (u32, u32),
     pub first: u32,
     pub rows: u32,
