@@ -1,4 +1,4 @@
-//! Cases with the crate's answers as files, for a replay where neither the crate nor this harness is.
+//! Cases with the crate's answers as one file, for a replay where neither the crate nor this harness is.
 
 use crate::compare::scripted;
 use crate::generate::{random_case, KINDS};
@@ -9,37 +9,42 @@ use std::fs;
 use std::io;
 use std::path::Path;
 
-/// Writes `count` cases whose files are each of at most `largest` bytes, the kinds in turn as far as they come. Nothing of the library is in them.
-pub fn write_cases(folder: &Path, count: u64, largest: usize, options: &Options) -> io::Result<()> {
+/// Only the kinds that can be small; each has its turn.
+const SMALL_KINDS: u64 = 5;
+
+/// Writes `count` cases, of each of which no part is longer than `largest` bytes. Nothing that the library answers is in them.
+pub fn write_cases(folder: &Path, options: &Options) -> io::Result<()> {
     fs::create_dir_all(folder)?;
+    let mut all = (options.count as u32).to_le_bytes().to_vec();
     let mut list = String::new();
     let mut written = 0;
-    let mut number = options.first;
-    let last = options.first + 1000 * count;
-    while written < count && number < last {
+    for number in options.first..options.first + 1000 * options.count {
+        if written == options.count {
+            break;
+        }
         let (kind, case) = random_case(options.seed, number);
-        number += 1;
-        // of the kinds that can be small each has its turn
-        if kind != (written % 5) as usize {
+        if kind as u64 != written % SMALL_KINDS {
             continue;
         }
-        let Ok(script) = scripted(&case, Reading::Right) else {
-            return Err(io::Error::other(format!("the crate panics at case {}", number - 1)));
-        };
-        let parts = [("script", &script.bytes), ("symbols", &*case.symbols), ("wording", &*case.wording), ("answers", &script.expected)];
-        if parts.iter().any(|(_, bytes)| bytes.len() > largest) {
+        let script = scripted(&case, Reading::Right).map_err(|d| io::Error::other(d.text))?;
+        let parts = [&script.bytes, &*case.symbols, &*case.wording, &script.expected];
+        if parts.iter().any(|bytes| bytes.len() > options.largest) {
             continue;
         }
-        for (name, bytes) in parts {
-            fs::write(folder.join(format!("{written:04}.{name}")), bytes)?;
+        for bytes in parts {
+            all.extend_from_slice(&(bytes.len() as u32).to_le_bytes());
         }
-        let _ = writeln!(list, "{written:04} {} of seed {}: {} answers", KINDS[kind], options.seed, script.answers.len());
+        for bytes in parts {
+            all.extend_from_slice(bytes);
+        }
+        let _ = writeln!(list, "{written} is case {number} of seed {}, {}, {} answers", options.seed, KINDS[kind], script.answers.len());
         written += 1;
     }
-    fs::write(folder.join("cases.txt"), list)?;
-    println!("{written} cases written");
-    if written < count {
+    if written < options.count {
         return Err(io::Error::other("too few cases are small enough"));
     }
+    fs::write(folder.join("cases.bin"), &all)?;
+    fs::write(folder.join("cases.txt"), list)?;
+    println!("{written} cases, {} bytes", all.len());
     Ok(())
 }

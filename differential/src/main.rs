@@ -149,7 +149,7 @@ fn main() {
     // a panic of the crate is reported as a difference
     std::panic::set_hook(Box::new(|_| {}));
     if let Some(folder) = &options.write {
-        if let Err(error) = files::write_cases(folder.as_ref(), options.count, options.largest, &options) {
+        if let Err(error) = files::write_cases(folder.as_ref(), &options) {
             eprintln!("{error}");
             std::process::exit(1);
         }
