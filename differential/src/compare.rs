@@ -179,7 +179,9 @@ pub fn compared(case: &Case, reading: Reading, counts: &mut Counts) -> Option<Di
         Ok(script) => script,
         Err(difference) => return Some(difference),
     };
-    let answers = library::run(&script.bytes, &case.symbols, &case.wording, script.expected.len() + 64);
+    let Some(answers) = library::run(&script.bytes, &case.symbols, &case.wording, script.expected.len() + 64) else {
+        return Some(Difference { text: "the library touches bytes past its answers".to_string() });
+    };
     if answers == script.expected {
         counts.add(case, &script);
         return None;

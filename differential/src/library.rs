@@ -13,13 +13,16 @@ extern "C" {
     ) -> usize;
 }
 
-/// What the script's commands answer, with room for `room` bytes.
-pub fn run(script: &[u8], symbols: &[u8], wording: &[u8], room: usize) -> Vec<u8> {
-    let mut answers = vec![0xa5u8; room];
+/// A byte that stands where nothing was written.
+const UNWRITTEN: u8 = 0xa5;
+
+/// What the script's commands answer, with room for `room` bytes; nothing if bytes past the answers were touched.
+pub fn run(script: &[u8], symbols: &[u8], wording: &[u8], room: usize) -> Option<Vec<u8>> {
+    let mut answers = vec![UNWRITTEN; room];
+    let (to, length) = (answers.as_mut_ptr(), answers.len());
     // The four parts are borrowed for the whole call, `answers` alone is written to, and none overlaps another.
-    let written = unsafe {
-        firmeskal_run(script.as_ptr(), script.len(), symbols.as_ptr(), symbols.len(), wording.as_ptr(), wording.len(), answers.as_mut_ptr(), answers.len())
-    };
+    let written = unsafe { firmeskal_run(script.as_ptr(), script.len(), symbols.as_ptr(), symbols.len(), wording.as_ptr(), wording.len(), to, length) };
+    let untouched = answers.get(written..)?.iter().all(|b| *b == UNWRITTEN);
     answers.truncate(written);
-    answers
+    untouched.then_some(answers)
 }
