@@ -68,6 +68,10 @@ fn random_cases(options: &Options) -> u64 {
             }
             found.take(&case, Reading::Right);
         }
+        let done = number + 1 - options.first;
+        if done.is_multiple_of(10_000) {
+            eprintln!("{done} cases, {} differ", found.cases);
+        }
     }
     let mut all = Counts::default();
     for (kind, c) in KINDS.iter().zip(&counts) {
