@@ -1,0 +1,42 @@
+//! The options of the command line.
+
+pub struct Options {
+    pub cases: u64,
+    pub first: u64,
+    pub seed: u64,
+    pub exhaustive: bool,
+    pub show_that_it_sees: bool,
+    pub verbose: bool,
+    pub write: Option<String>,
+    pub count: u64,
+    pub largest: usize,
+}
+
+const USAGE: &str = "run [--cases N] [--first N] [--seed S] [--no-exhaustive] [--show-that-it-sees [--verbose]] [--write DIR [--count N] [--largest BYTES]]";
+
+impl Options {
+    pub fn read(words: impl Iterator<Item = String>) -> Result<Options, String> {
+        let mut o =
+            Options { cases: 20_000, first: 0, seed: 1, exhaustive: true, show_that_it_sees: false, verbose: false, write: None, count: 100, largest: 8192 };
+        let mut words = words;
+        while let Some(word) = words.next() {
+            if word == "--write" {
+                o.write = Some(words.next().ok_or(format!("{word} takes a folder\n{USAGE}"))?);
+                continue;
+            }
+            let mut number = || words.next().and_then(|n| n.parse::<u64>().ok()).ok_or(format!("{word} takes a number\n{USAGE}"));
+            match word.as_str() {
+                "--cases" => o.cases = number()?,
+                "--first" => o.first = number()?,
+                "--seed" => o.seed = number()?,
+                "--count" => o.count = number()?,
+                "--largest" => o.largest = number()? as usize,
+                "--no-exhaustive" => o.exhaustive = false,
+                "--show-that-it-sees" => o.show_that_it_sees = true,
+                "--verbose" => o.verbose = true,
+                _ => return Err(format!("no option {word}\n{USAGE}")),
+            }
+        }
+        Ok(o)
+    }
+}
