@@ -49,7 +49,7 @@ fn agrees<'a>(
     expected: &'a [u8],
     answers: &mut [u8],
 ) -> bool {
-    let n = script::run::run(script, symbols, wording, answers);
+    let n = script::run(script, symbols, wording, answers);
     same(front(answers, n), expected)
 }
 
@@ -64,10 +64,10 @@ fn next_case(
 ) -> u32 {
     let mut header = [0u8; 16];
     let got = io::read_full(fd, &mut header);
-    let a = script::words::word_at(&header, 0) as usize;
-    let b = script::words::word_at(&header, 4) as usize;
-    let c = script::words::word_at(&header, 8) as usize;
-    let d = script::words::word_at(&header, 12) as usize;
+    let a = wire::words::word_at(&header, 0) as usize;
+    let b = wire::words::word_at(&header, 4) as usize;
+    let c = wire::words::word_at(&header, 8) as usize;
+    let d = wire::words::word_at(&header, 12) as usize;
     if got < 16 {
         return BROKEN;
     }
@@ -125,7 +125,7 @@ fn told_cases(fd: i32) -> u32 {
     if io::read_full(fd, &mut count) < 4 {
         return 0;
     }
-    script::words::word_at(&count, 0)
+    wire::words::word_at(&count, 0)
 }
 
 fn replay(
