@@ -4,7 +4,7 @@
 use Prim.Native.Nat.{ℕ}
 use mathlib.Core.Bool.{Bool, true, false}
 use mathlib.Core.List.{List, [], _∷_, _++_}
-use Rattle.art.specs.Stores.{Stores, lent}
+use Rattle.art.specs.Stores.{lent}
 use Rattle.art.specs.declared.memory_rgba8_texture.Store.the-variants.{Symbols}
 use Rattle.records.specs.Samples.{settings, limits}
 use Rattle.records.specs.declared.layout.Layout.{Layout}

@@ -3,7 +3,6 @@
 use Prim.Native.Nat.{ℕ}
 use mathlib.Core.Bool.{true}
 use mathlib.Core.List.{List, [], _∷_}
-use Rattle.geometry.specs.declared.rect.Size.{Size}
 use Rattle.art.specs.declared.memory_rgba8_texture.Store.the-variants.{Symbols}
 use Rattle.records.specs.Samples.{bit, limits}
 use Rattle.records.specs.declared.layout.Layout.{Layout}
