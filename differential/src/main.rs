@@ -1,5 +1,6 @@
 //! Compares texture_packer 0.30.0 with the proved library. README.md says what is compared and how.
 
+mod bench;
 mod case;
 mod compare;
 mod expect;
@@ -150,6 +151,10 @@ fn main() {
             std::process::exit(2);
         }
     };
+    if options.bench {
+        bench::all();
+        return;
+    }
     // a panic of the crate is reported as a difference
     std::panic::set_hook(Box::new(|_| {}));
     if let Some(folder) = &options.write {

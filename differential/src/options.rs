@@ -7,17 +7,18 @@ pub struct Options {
     pub exhaustive: bool,
     pub show_that_it_sees: bool,
     pub verbose: bool,
+    pub bench: bool,
     pub write: Option<String>,
     pub count: u64,
     pub largest: usize,
 }
 
-const USAGE: &str = "run [--cases N] [--first N] [--seed S] [--no-exhaustive] [--show-that-it-sees [--verbose]] [--write DIR [--count N] [--largest BYTES]]";
+const USAGE: &str = "run [--cases N] [--first N] [--seed S] [--no-exhaustive] [--show-that-it-sees [--verbose]] [--bench] [--write DIR [--count N] [--largest BYTES]]";
 
 impl Options {
     pub fn read(words: impl Iterator<Item = String>) -> Result<Options, String> {
         let mut o =
-            Options { cases: 20_000, first: 0, seed: 1, exhaustive: true, show_that_it_sees: false, verbose: false, write: None, count: 100, largest: 8192 };
+            Options { cases: 20_000, first: 0, seed: 1, exhaustive: true, show_that_it_sees: false, verbose: false, bench: false, write: None, count: 100, largest: 8192 };
         let mut words = words;
         while let Some(word) = words.next() {
             if word == "--write" {
@@ -34,6 +35,7 @@ impl Options {
                 "--no-exhaustive" => o.exhaustive = false,
                 "--show-that-it-sees" => o.show_that_it_sees = true,
                 "--verbose" => o.verbose = true,
+                "--bench" => o.bench = true,
                 _ => return Err(format!("no option {word}\n{USAGE}")),
             }
         }
