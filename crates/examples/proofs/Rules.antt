@@ -24,7 +24,7 @@ use Rattle.paint.specs.Backgrounds.{clearPixel, solid, composed}
 use Rattle.paint.specs.Pictures.{bytes, line, picture, composedAt, band}
 use Rattle.compose.specs.Composing.{emptyPage, badRows, badLength, bandRefusal, composedAnswer, composedBuffer}
 use Rattle.compose.specs.Checking.{samePixel, differs, columnOff, rowOff, compared, checkedRows}
-use Rattle.coords.specs.Coordinates.{corners, named, namedPageSize, between, pastEdge, locateRow, locateRefusal, located}
+use Rattle.coords.specs.Coordinates.{corners, namedPageSize, between, pastEdge, locateRow, locateRefusal, located}
 use Rattle.coords.specs.Bits.{decodedFields, decoded}
 use Rattle.coords.specs.Table.{answer as coordinates, inset, frameIs, numbersAre}
 
@@ -53,7 +53,7 @@ unfolding clearPixel solid composed bytes line picture composedAt band emptyPage
 compose = tt
 
 coords : Unit {0}
-unfolding ofBits toBits ofInt add sub div le corners named namedPageSize between pastEdge locateRow locateRefusal located decodedFields decoded coordinates inset frameIs numbersAre
+unfolding ofBits toBits ofInt add sub div le corners namedPageSize between pastEdge locateRow locateRefusal located decodedFields decoded coordinates inset frameIs numbersAre
 coords = tt
 
 unfoldable pub below : Unit {0}
