@@ -180,7 +180,7 @@ fn offers(side: u32, icons: &Icons, name: &str) {
     line(&format!("one offer or withdrawal with 255 standing, {side}, {name}"), ours, theirs, "us");
 }
 
-/// A question of a full layout is the faithful test of its records and one search; beside it the crate places images of the records' sizes again.
+/// A question of a full layout is the faithful test of its records and one search; beside it the crate places images of the whole sizes, which are the records' where nothing is trimmed.
 fn faithful_test(side: u32, icons: &Icons, name: &str) {
     let c = config(side);
     let mut full = Calls::open(&c);
