@@ -1,11 +1,18 @@
--- Words of the code that compares a lent row with the wanted one.
+-- Words of the code that compares lent rows with the wanted ones.
 -- Assumes nothing.
 use Prim.Native.Nat.{ℕ, _+_, _*_}
-use mathlib.Core.Bool.{Bool, not}
+use mathlib.Core.Bool.{Bool, true, false, not}
 use mathlib.Core.List.{List}
 use Rattle.art.specs.Stores.{pixelFrom}
 use Rattle.compose.specs.Checking.{samePixel}
+use Rattle.compose.specs.declared.checking.Checked.{Checked}
+use Rattle.compose.specs.declared.checking.Checked.the-variants.{Same, Differs, Refused}
 
--- the lent bytes, from pixel number `base` on, do not show pixel number x of the wanted ones
-abbrev pub offAt : List ℕ → ℕ → List ℕ → ℕ → Bool
-offAt lent base wanted x = not (samePixel (pixelFrom lent (4 * (base + x))) (pixelFrom wanted (4 * x)))
+-- pixel number base + x of the lent bytes is not that of the wanted ones
+abbrev pub offAt : List ℕ → List ℕ → ℕ → ℕ → Bool
+offAt lent wanted base x = not (samePixel (pixelFrom lent (4 * (base + x))) (pixelFrom wanted (4 * (base + x))))
+
+abbrev pub isSame : Checked → Bool
+isSame Same = true
+isSame (Differs x y) = false
+isSame (Refused r) = false

@@ -1,9 +1,8 @@
 -- `check_rows` compares where no check refuses. Assumes nothing.
-use Prim.Native.Nat.{_*_, _≤_}
+use Prim.Native.Nat.{_*_}
 use native.Mathlib.Omega.{arith}
-use mathlib.Core.Path.{_≡_, sym, ap, _∙_}
-use lib.ListN.{length, take}
-use lib.Seq.{length-take-le}
+use mathlib.Core.Path.{sym, ap, _∙_}
+use lib.ListN.{length}
 use denote.Ref.{now}
 use Rattle.geometry.specs.declared.rect.Size.{Size}
 use Rattle.art.specs.Stores.{lent}
@@ -21,18 +20,6 @@ through : (c : tie.After-enum-told) →
     Unrefused (a .l) (lent (now (a .symbols)) (now (a .wording))) (a .page) (a .first) (a .rows) (length (now (a .shown)))
 through c = done-unrefused _ _ _ _ _ _ (sym (c .before .before .band-answer .ensures) ∙ c .enum-told .given .1)
 
--- a row of the page has room
-room : (c : tie.After-struct-known) → 4 * c .before .before .size-of-page .result .w ≤ length (c .before .new-line .result)
-room c =
-    let a = c .before .before .before .before .before .before .before .before .before .args in
-    let wide = side-w (a .l) (through (c .before .before .before) .formed) (a .page) in
-    let w = ap (λ (k : Size). k .w) (c .before .before .size-of-page .ensures) in
-    let n = c .before .new-line .ensures in
-    omega arith
-
-part-long : (c : tie.After-struct-known) → length (take (4 * c .before .before .size-of-page .result .w) (c .before .new-line .result)) ≡ 4 * c .before .before .size-of-page .result .w
-part-long c = length-take-le (4 * c .before .before .size-of-page .result .w) (c .before .new-line .result) (room c)
-
 band-answer-requires : tie.Need-band-answer-requires
 band-answer-requires c κs = search needs
 
@@ -45,31 +32,23 @@ enum-told c = search needs
 size-of-page-requires : tie.Need-size-of-page-requires
 size-of-page-requires c κs = through c .formed
 
-new-line-requires : tie.Need-new-line-requires
-new-line-requires c κs = search needs
-
-cast-size : tie.Need-cast-size
-cast-size c = search needs
-
-mul-size : tie.Need-mul-size
-mul-size c = search needs
-
-array-borrow-prefix-line : tie.Need-array-borrow-prefix-line
-array-borrow-prefix-line c = room c
+new-room-requires : tie.Need-new-room-requires
+new-room-requires c κs = search needs
 
 slice-aggregate-check-band : tie.Need-slice-aggregate-check-band
-slice-aggregate-check-band c = sym (part-long (c .before))
+slice-aggregate-check-band c = search needs
 
 check-band-requires : tie.Need-check-band-requires
 check-band-requires c κs =
-    let t = through (c .before .before .before .before) in
-    let a = c .before .before .before .before .before .before .before .before .before .before .args in
-    let z = c .before .before .before .size-of-page .ensures in
+    let t = through (c .before .before .before) in
+    let a = c .before .before .before .before .before .before .before .before .before .args in
+    let z = c .before .before .size-of-page .ensures in
     let w = ap (λ (k : Size). k .w) z in
     let wide = side-w (a .l) (t .formed) (a .page) in
+    let some = t .wide in
     let tall = side-h (a .l) (t .formed) (a .page) in
     let in-page = t .within in
-    ((t .formed, t .stored), (omega arith, omega arith, part-long (c .before), t .long ∙ ap (λ (k : Size). 4 * (k .w * a .rows)) (sym z)))
+    ((t .formed, t .stored), (omega arith, omega arith, omega arith, c .before .new-room .ensures, t .long ∙ ap (λ (k : Size). 4 * (k .w * a .rows)) (sym z)))
 
 returns : tie.Need-returns
 returns c = says checkedNumbers (check-refused _ _ _ _ _ _ _ (sym (c .before .before .before .band-answer .ensures) ∙ c .before .r .given .1))
@@ -78,7 +57,7 @@ returns-2 : tie.Need-returns-2
 returns-2 c =
     says checkedNumbers
     (c .before .check-band .ensures
-    ∙ check-compared _ _ _ _ _ _ _ _ (c .before .before .before .before .before .size-of-page .ensures) (sym (c .before .before .before .before .before .before .before .before .band-answer .ensures) ∙ c .before .before .before .before .before .before .enum-told .given .1))
+    ∙ check-compared _ _ _ _ _ _ _ _ (c .before .before .before .before .size-of-page .ensures) (sym (c .before .before .before .before .before .before .before .band-answer .ensures) ∙ c .before .before .before .before .before .enum-told .given .1))
 
 pub check-rows-spec : {M : Type 1} → statement M
 check-rows-spec =
@@ -88,10 +67,7 @@ check-rows-spec =
     enum-known-r
     enum-told
     size-of-page-requires
-    new-line-requires
-    cast-size
-    mul-size
-    array-borrow-prefix-line
+    new-room-requires
     slice-aggregate-check-band
     check-band-requires
     returns

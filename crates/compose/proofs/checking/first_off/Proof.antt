@@ -11,10 +11,10 @@ use Rattle.compose.proofs.checking.first_off.Statement.{statement}
 use Rattle.compose.proofs.checking.first_off.Tie as tie
 
 abbrev Inv-loop : tie.InvT-loop
-Inv-loop shown base wanted w x₀ x = (x ≤ w) × ((k : ℕ) → k < x → offAt shown base wanted k ≡ false)
+Inv-loop shown wanted base w x₀ x = (x ≤ w) × ((k : ℕ) → k < x → offAt shown wanted base k ≡ false)
 
 abbrev μ-loop : tie.MeasureT-loop
-μ-loop shown base wanted w x₀ x = w - x
+μ-loop shown wanted base w x₀ x = w - x
 
 loop-holds : tie.Need-loop-holds Inv-loop μ-loop
 loop-holds c = (omega arith, λ k h. absurd (omega arith))
@@ -22,8 +22,8 @@ loop-holds c = (omega arith, λ k h. absurd (omega arith))
 cast-i : tie.Need-cast-i Inv-loop μ-loop
 cast-i c = omega arith
 
-add-same-pixel : tie.Need-add-same-pixel Inv-loop μ-loop
-add-same-pixel c = omega arith
+add-i : tie.Need-add-i Inv-loop μ-loop
+add-i c = omega arith
 
 same-pixel-requires : tie.Need-same-pixel-requires Inv-loop μ-loop
 same-pixel-requires c κs = (omega arith, omega arith)
@@ -31,7 +31,7 @@ same-pixel-requires c κs = (omega arith, omega arith)
 -- whether column x is off is what the comparison found, turned round
 seen : (c : tie.After-same-pixel Inv-loop μ-loop) →
     let a = c .before .before .before .before .before .args in
-    offAt (now (a .shown)) (a .base) (now (a .wanted)) (c .before .before .loop .x) ≡ not (c .same-pixel .result)
+    offAt (now (a .shown)) (now (a .wanted)) (a .base) (c .before .before .loop .x) ≡ not (c .same-pixel .result)
 seen c = ap not (sym (c .same-pixel .ensures))
 
 returns : tie.Need-returns Inv-loop μ-loop
@@ -65,7 +65,7 @@ first-off-spec =
     μ-loop
     loop-holds
     cast-i
-    add-same-pixel
+    add-i
     same-pixel-requires
     returns
     add-x
