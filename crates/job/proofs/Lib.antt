@@ -1,2 +1,6 @@
+pub mod Picks
 pub mod Digits
 pub mod Pieces
+pub mod Splits
+pub mod Sames
+pub mod Sayings

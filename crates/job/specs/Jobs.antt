@@ -1,6 +1,6 @@
 -- What a job's text says: its lines one after the other.
 -- Assumes nothing.
-use Prim.Native.Nat.{ℕ, suc}
+use Prim.Native.Nat.{ℕ, _+_}
 use mathlib.Core.Bool.{cond}
 use mathlib.Core.List.{List, [], _∷_}
 use lib.Dec.{ltb}
@@ -49,7 +49,7 @@ entered j k i n =
       opened = j .opened;
       background = j .background;
       entries = set (j .entries) (j .count) (record { key = k; image = i; line = n });
-      count = suc (j .count);
+      count = j .count + 1;
     }
 
 -- ## one line: `Start` before the config line, `Open` after it, `Closed` after a background or an image, `Stopped` at a trouble
@@ -116,7 +116,7 @@ onward Closed n rest = rest
 -- the lines from line n on
 unfoldable pub linesFrom : ℕ → State → List (List ℕ) → Parsed
 linesFrom n s [] = ended (s .stage) (s .job)
-linesFrom n s (l ∷ ls) = onward (taken n (lineIn l) s .stage) n (linesFrom (suc n) (taken n (lineIn l) s) ls)
+linesFrom n s (l ∷ ls) = onward (taken n (lineIn l) s .stage) n (linesFrom (n + 1) (taken n (lineIn l) s) ls)
 
 -- lines end at line feeds, and are numbered from 1
 unfoldable pub linesIn : List ℕ → List (List ℕ)

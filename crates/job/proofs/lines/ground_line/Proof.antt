@@ -1,35 +1,36 @@
+-- `ground_line` is no background, a colour, or malformed. Assumes nothing.
+use mathlib.Core.Path.{_≡_, sym, ap, ap₂, _∙_}
+use mathlib.Core.Bool.{Bool, cond}
+use Rattle.job.specs.Lines.{colourOk, colourOf, groundLine}
+use Rattle.job.specs.Words.{split}
+use Rattle.paint.specs.declared.background.Background.the-variants.{Clear}
+use Rattle.job.specs.declared.lines.Line.the-variants.{Ground, Malformed}
+use Rattle.job.specs.declared.lines.Trouble.the-variants.{BadBackground}
+use Rattle.job.proofs.Picks.{picked, passed}
 use borrow.Author.Needs.{needs}
 use Rattle.job.proofs.lines.ground_line.Statement.{statement}
 use Rattle.job.proofs.lines.ground_line.Tie as tie
-use Rattle.job.proofs.lines.ground_line.Reads as reads
-use Rattle.job.proofs.lines.ground_line.Lts as lts
-use Rattle.job.proofs.lines.clear_ok.Reads as clear-ok-reads
-use Rattle.job.proofs.lines.colour_of.Reads as colour-of-reads
-use Rattle.job.proofs.lines.colour_ok.Reads as colour-ok-reads
 
--- src/lines.rt:123:8
 clear-ok-requires : tie.Need-clear-ok-requires
 clear-ok-requires c κs = search needs
 
--- src/lines.rt:124:9
 returns : tie.Need-returns
-returns c = ?
+unfolding groundLine
+returns c = picked (cond (colourOk (split (c .before .before .before .args .line .now))) (Ground (colourOf (split (c .before .before .before .args .line .now)))) (Malformed BadBackground)) (sym (c .before .clear-ok .ensures) ∙ c .if1 .taken)
 
--- src/lines.rt:126:8
 colour-ok-requires : tie.Need-colour-ok-requires
 colour-ok-requires c κs = search needs
 
--- src/lines.rt:127:29
 colour-of-requires : tie.Need-colour-of-requires
 colour-of-requires c κs = search needs
 
--- src/lines.rt:127:9
 returns-2 : tie.Need-returns-2
-returns-2 c = ?
+unfolding groundLine
+returns-2 c = ap Ground (c .colour-of .ensures) ∙ picked (Malformed BadBackground) (sym (c .before .before .colour-ok .ensures) ∙ c .before .if2 .taken) ∙ passed (Ground Clear) (sym (c .before .before .before .before .clear-ok .ensures) ∙ c .before .before .before .if1 .left)
 
--- src/lines.rt:120:1
 returns-3 : tie.Need-returns-3
-returns-3 c = ?
+unfolding groundLine
+returns-3 c = passed (Ground (colourOf (split (c .before .before .before .before .before .args .line .now)))) (sym (c .before .colour-ok .ensures) ∙ c .if2 .left) ∙ passed (Ground Clear) (sym (c .before .before .before .clear-ok .ensures) ∙ c .before .before .if1 .left)
 
 pub ground-line-spec : {M : Type 1} → statement M
 ground-line-spec =

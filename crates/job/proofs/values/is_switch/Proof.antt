@@ -1,29 +1,26 @@
+-- `is_switch` compares with both words. Assumes nothing.
+use mathlib.Core.Bool.{_||_}
+use mathlib.Core.Path.{_≡_, sym, ap, ap₂, _∙_}
+use Rattle.job.specs.Words.{isSwitch}
 use borrow.Author.Needs.{needs}
 use Rattle.job.proofs.values.is_switch.Statement.{statement}
 use Rattle.job.proofs.values.is_switch.Tie as tie
-use Rattle.job.proofs.values.is_switch.Reads as reads
-use Rattle.job.proofs.values.is_switch.Lts as lts
-use Rattle.job.proofs.values.is_word.Reads as is-word-reads
 
--- src/values.rt:74:22
 slice-aggregate-is-word : tie.Need-slice-aggregate-is-word
 slice-aggregate-is-word c = search needs
 
--- src/values.rt:74:5
 is-word-requires : tie.Need-is-word-requires
 is-word-requires c κs = search needs
 
--- src/values.rt:74:48
 slice-aggregate-is-word-2 : tie.Need-slice-aggregate-is-word-2
 slice-aggregate-is-word-2 c = search needs
 
--- src/values.rt:74:31
 is-word-requires-2 : tie.Need-is-word-requires-2
 is-word-requires-2 c κs = search needs
 
--- src/values.rt:71:1
 returns : tie.Need-returns
-returns c = ?
+unfolding isSwitch
+returns c = ap₂ _||_ (c .before .before .is-word .ensures) (c .is-word2 .ensures)
 
 pub is-switch-spec : {M : Type 1} → statement M
 is-switch-spec =

@@ -1,29 +1,30 @@
+-- `to_number` is the number, or 0. Assumes nothing.
+use mathlib.Core.Path.{_≡_, sym, ap, ap₂, _∙_}
+use Rattle.job.specs.Words.{valueOf, toNumber}
+use Rattle.job.specs.declared.numbers.Number.the-variants.{Is, Not}
 use borrow.Author.Needs.{needs}
 use Rattle.job.proofs.values.to_number.Statement.{statement}
 use Rattle.job.proofs.values.to_number.Tie as tie
-use Rattle.job.proofs.values.to_number.Reads as reads
-use Rattle.job.proofs.values.to_number.Lts as lts
-use Rattle.job.proofs.values.number_at.Reads as number-at-reads
 
--- src/values.rt:43:11
+is-value : (c : tie.After-value) → c .before .before .number-at .result ≡ Is (c .value .given .0 .0)
+is-value c = cc
+
 number-at-requires : tie.Need-number-at-requires
 number-at-requires c κs = search needs
 
--- src/values.rt:44:20
 enum-known-value : tie.Need-enum-known-value
 enum-known-value c = search needs
 
--- src/values.rt:45:24
 enum-told : tie.Need-enum-told
 enum-told c = search needs
 
--- src/values.rt:40:1
 returns : tie.Need-returns
-returns c = ?
+unfolding toNumber valueOf
+returns c = sym (ap valueOf (sym (c .before .before .before .number-at .ensures) ∙ is-value (c .before)))
 
--- src/values.rt:40:1
 returns-2 : tie.Need-returns-2
-returns-2 c = ?
+unfolding toNumber valueOf
+returns-2 c = sym (ap valueOf (sym (c .before .before .number-at .ensures) ∙ c .enum-told .given .1))
 
 pub to-number-spec : {M : Type 1} → statement M
 to-number-spec =

@@ -1,30 +1,28 @@
+-- `to_threshold` is unset where the word is none. Assumes nothing.
+use mathlib.Core.Path.{_≡_, sym, ap, ap₂, _∙_}
+use Rattle.job.specs.Words.{word, split, toPart, toThreshold}
+use Rattle.paint.specs.declared.background.Threshold.the-variants.{Unset, AtMost}
+use Rattle.job.proofs.Picks.{picked, passed}
 use borrow.Author.Needs.{needs}
 use Rattle.job.proofs.values.to_threshold.Statement.{statement}
 use Rattle.job.proofs.values.to_threshold.Tie as tie
-use Rattle.job.proofs.values.to_threshold.Reads as reads
-use Rattle.job.proofs.values.to_threshold.Lts as lts
-use Rattle.job.proofs.values.is_word.Reads as is-word-reads
-use Rattle.job.proofs.values.to_part.Reads as to-part-reads
 
--- src/values.rt:107:25
 slice-aggregate-is-word : tie.Need-slice-aggregate-is-word
 slice-aggregate-is-word c = search needs
 
--- src/values.rt:107:8
 is-word-requires : tie.Need-is-word-requires
 is-word-requires c κs = search needs
 
--- src/values.rt:108:9
 returns : tie.Need-returns
-returns c = ?
+unfolding toThreshold
+returns c = picked (AtMost (toPart (word (c .before .before .before .before .args .n) (split (c .before .before .before .before .args .line .now))))) (sym (c .before .is-word .ensures) ∙ c .if1 .taken)
 
--- src/values.rt:110:23
 to-part-requires : tie.Need-to-part-requires
 to-part-requires c κs = search needs
 
--- src/values.rt:104:1
 returns-2 : tie.Need-returns-2
-returns-2 c = ?
+unfolding toThreshold
+returns-2 c = ap AtMost (c .to-part .ensures) ∙ passed Unset (sym (c .before .before .is-word .ensures) ∙ c .before .if1 .left)
 
 pub to-threshold-spec : {M : Type 1} → statement M
 to-threshold-spec =

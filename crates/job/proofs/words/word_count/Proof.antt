@@ -1,42 +1,69 @@
+-- `word_count` counts the words that it has passed. Assumes nothing.
+use Prim.Native.Nat.{suc, _≤_, _-_, _+_}
+use native.Mathlib.Omega.{arith}
+use mathlib.Core.Logic.{⊎-elim}
+use mathlib.Core.Path.{_≡_, refl, sym, ap, _∙_}
+use lib.ListN.{length, drop}
+use borrow.Author.Needs.{needs}
+use Rattle.job.specs.Bytes.{isBlank}
+use Rattle.job.specs.Words.{split}
+use Rattle.job.proofs.Pieces.{end-inside}
+use Rattle.job.proofs.Splits.{word-none, word-here, word-past}
 use Rattle.job.proofs.words.word_count.Statement.{statement}
 use Rattle.job.proofs.words.word_count.Tie as tie
-use Rattle.job.proofs.words.word_count.Reads as reads
-use Rattle.job.proofs.words.word_count.Lts as lts
-use Rattle.job.proofs.words.blank_from.Reads as blank-from-reads
 
 abbrev Inv-loop : tie.InvT-loop
-Inv-loop line count₀ at₀ count at = ?
+Inv-loop line count₀ at₀ count at = (at ≤ length line + 1) × (count ≤ at) × (length (split line) ≡ count + length (split (drop at line)))
 
 abbrev μ-loop : tie.MeasureT-loop
-μ-loop line count₀ at₀ count at = ?
+μ-loop line count₀ at₀ count at = length line + 1 - at
 
--- src/words.rt:75:5
+-- where the piece ends
+ends : (c : tie.After-blank-from Inv-loop μ-loop)
+    → (c .before .before .loop .at ≤ c .blank-from .result) × (c .blank-from .result ≤ length (c .before .before .before .before .args .line .now))
+ends c =
+    let l = c .before .before .loop in
+    let t = c .before .loop-test .taken in
+    end-inside isBlank (c .before .before .before .before .args .line .now) (l .at) (c .blank-from .result) (c .blank-from .ensures) (omega arith)
+
 loop-holds : tie.Need-loop-holds Inv-loop μ-loop
-loop-holds c = ?
+loop-holds c = (omega arith, omega arith, omega arith)
 
--- src/words.rt:76:13
 blank-from-requires : tie.Need-blank-from-requires Inv-loop μ-loop
-blank-from-requires c κs = ?
+blank-from-requires c κs = search needs
 
--- src/words.rt:78:13
 add-count : tie.Need-add-count Inv-loop μ-loop
-add-count c = ?
+add-count c = search needs
 
--- src/words.rt:80:14
 add-at : tie.Need-add-at Inv-loop μ-loop
-add-at c = ?
+add-at c = let e = ends (c .before) in search needs
 
--- src/words.rt:75:5
 loop-less : tie.Need-loop-less Inv-loop μ-loop
-loop-less c = ?
+loop-less c = let e = ends (c .before) in search needs
 
--- src/words.rt:75:5
 loop-again : tie.Need-loop-again Inv-loop μ-loop
-loop-again c = ?
+loop-again c =
+    let k = c .before in
+    let l = k .before .before .loop in
+    let line = k .before .before .before .before .args .line .now in
+    let i = l .inv .2 in
+    let e = ends k in
+    ⊎-elim
+    (λ w.
+      let here : length (split (drop (l .at) line)) ≡ suc (length (split (drop (k .blank-from .result + 1) line))) = ap length (word-here line (l .at) (k .blank-from .result) (k .blank-from .ensures) (w .0 .taken)) in
+      (omega arith, omega arith, omega arith))
+    (λ w.
+      let here : length (split (drop (l .at) line)) ≡ length (split (drop (k .blank-from .result + 1) line)) = ap length (word-none line (l .at) (k .blank-from .result) (k .blank-from .ensures) (w .0 .left)) in
+      (omega arith, omega arith, omega arith))
+    (c .if1 .came)
 
--- src/words.rt:70:1
 returns : tie.Need-returns Inv-loop μ-loop
-returns c = ?
+returns c =
+    let l = c .before .loop in
+    let line = c .before .before .before .args .line .now in
+    let e : length (split (drop (l .at) line)) ≡ 0 = ap length (word-past line (l .at) (c .loop-test .left)) in
+    let i = l .inv .2 in
+    omega arith
 
 pub word-count-spec : {M : Type 1} → statement M
 word-count-spec =
