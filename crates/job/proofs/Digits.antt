@@ -55,7 +55,7 @@ goes n b m bs e =
     let d : isDigit b ≡ true = and-left (isDigit b) (leb (10 * n + (b - 48)) 4294967295) (p .0) in
     let l : 10 * n + (b - 48) ≤ 4294967295 = leb-true (10 * n + (b - 48)) 4294967295 (and-right (isDigit b) (leb (10 * n + (b - 48)) 4294967295) (p .0)) in (
       with-it (isDigit b) (all isDigit bs) (leb (valueFrom (10 * n + (b - 48)) bs) 4294967295) (valueFrom (10 * n + (b - 48)) bs) d
-      ∙ ap (λ (k : ℕ). digitsFrom k bs) (sym (p .1)),
+          ∙ ap (λ (k : ℕ). digitsFrom k bs) (sym (p .1)),
       omega arith,
     )
 
@@ -69,6 +69,7 @@ stops n b bs e = go (isDigit b) refl
         let k = leb-false (10 * n + (b - 48)) 4294967295 q in
         past (all isDigit (b ∷ bs)) (leb (valueFrom (10 * n + (b - 48)) bs) 4294967295) (valueFrom (10 * n + (b - 48)) bs)
         (lt-leb (valueFrom (10 * n + (b - 48)) bs) 4294967295 (omega arith))
+
     go : (d : Bool) → isDigit b ≡ d → digitsFrom n (b ∷ bs) ≡ Not
     go true p =
         here

@@ -4,3 +4,4 @@ pub mod Pieces
 pub mod Splits
 pub mod Sames
 pub mod Sayings
+pub mod Readings

@@ -73,6 +73,6 @@ module _ (t : ℕ → Bool) where
       go : (m : Bool) → length (cond m [] (b ∷ upTo t bs)) < suc (length bs)
           → (length (upTo t bs) < length bs → pieces t bs ≡ upTo t bs ∷ pieces t (drop (suc (length (upTo t bs))) bs))
           → cond m ([] ∷ pieces t bs) (onto b (pieces t bs))
-            ≡ cond m [] (b ∷ upTo t bs) ∷ pieces t (drop (suc (length (cond m [] (b ∷ upTo t bs)))) (b ∷ bs))
+          ≡ cond m [] (b ∷ upTo t bs) ∷ pieces t (drop (suc (length (cond m [] (b ∷ upTo t bs)))) (b ∷ bs))
       go true k rest = refl
       go false k rest = ap (onto b) (rest (omega arith))

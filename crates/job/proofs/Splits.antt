@@ -35,7 +35,7 @@ front-some (b ∷ bs) ws h = refl
 abbrev Next : List ℕ → Type 0
 Next l = split l ≡ Front (upTo isBlank l) (split (drop (suc (length (upTo isBlank l))) l))
 
-or-less : (a b : ℕ) → (a < b) ⊎ (b ≤ a)
+pub or-less : (a b : ℕ) → (a < b) ⊎ (b ≤ a)
 or-less zero zero = inr (omega arith)
 or-less zero (suc b) = inl (omega arith)
 or-less (suc a) zero = inr (omega arith)

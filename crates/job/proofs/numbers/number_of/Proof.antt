@@ -22,7 +22,7 @@ abbrev μ-loop : tie.MeasureT-loop
 -- the number so far, and the digit that comes
 next : (c : tie.After-shared-slice-known2 Inv-loop μ-loop)
     → digitsFrom 0 (c .before .before .before .before .before .args .word .now)
-      ≡ digitsFrom (c .before .before .loop .n) (getD (c .before .before .before .before .before .args .word .now) (c .before .before .loop .i) 0 ∷ drop (c .before .before .loop .i + 1) (c .before .before .before .before .before .args .word .now))
+    ≡ digitsFrom (c .before .before .loop .n) (getD (c .before .before .before .before .before .args .word .now) (c .before .before .loop .i) 0 ∷ drop (c .before .before .loop .i + 1) (c .before .before .before .before .before .args .word .now))
 next c =
     let l = c .before .before .loop in
     let word = c .before .before .before .before .before .args .word .now in

@@ -1,58 +1,54 @@
+-- `with_config` goes by the stage. Assumes nothing.
+use mathlib.Core.Path.{_≡_, sym, ap, _∙_}
+use Rattle.job.specs.Jobs.{state, withConfig}
+use Rattle.job.specs.declared.reading.Stage.{Stage}
+use Rattle.job.specs.declared.reading.Stage.the-variants.{Open, Stopped}
 use borrow.Author.Needs.{needs}
 use Rattle.job.proofs.reading.with_config.Statement.{statement}
 use Rattle.job.proofs.reading.with_config.Tie as tie
-use Rattle.job.proofs.reading.with_config.Reads as reads
-use Rattle.job.proofs.reading.with_config.Lts as lts
-use Rattle.job.proofs.reading.opened_job.Reads as opened-job-reads
-use Rattle.job.proofs.reading.stop.Reads as stop-reads
 
--- src/reading.rt:142:20
+is-stopped : (c : tie.After-stage) → c .before .before .args .stage ≡ Stopped (c .stage .given .0 .0)
+is-stopped c = cc
+
 enum-told : tie.Need-enum-told
 enum-told c = search needs
 
--- src/reading.rt:143:18
 opened-job-requires : tie.Need-opened-job-requires
 opened-job-requires c κs = search needs
 
--- src/reading.rt:145:29
 enum-told-2 : tie.Need-enum-told-2
 enum-told-2 c = search needs
 
--- src/reading.rt:145:24
 stop-requires : tie.Need-stop-requires
 stop-requires c κs = search needs
 
--- src/reading.rt:146:31
 enum-told-3 : tie.Need-enum-told-3
 enum-told-3 c = search needs
 
--- src/reading.rt:146:26
 stop-requires-2 : tie.Need-stop-requires-2
 stop-requires-2 c κs = search needs
 
--- src/reading.rt:147:24
 enum-known-stage : tie.Need-enum-known-stage
 enum-known-stage c = search needs
 
--- src/reading.rt:147:30
 stop-requires-3 : tie.Need-stop-requires-3
 stop-requires-3 c κs = search needs
 
--- src/reading.rt:137:1
 returns : tie.Need-returns
-returns c = ?
+unfolding withConfig
+returns c = ap (state Open) (c .opened-job .ensures) ∙ sym (ap (λ (g : Stage). withConfig (c .before .before .before .args .c) (c .before .before .before .args .line) g) (c .before .enum-told .given .1))
 
--- src/reading.rt:137:1
 returns-2 : tie.Need-returns-2
-returns-2 c = ?
+unfolding withConfig
+returns-2 c = c .stop .ensures ∙ sym (ap (λ (g : Stage). withConfig (c .before .before .before .args .c) (c .before .before .before .args .line) g) (c .before .enum-told2 .given .1))
 
--- src/reading.rt:137:1
 returns-3 : tie.Need-returns-3
-returns-3 c = ?
+unfolding withConfig
+returns-3 c = c .stop2 .ensures ∙ sym (ap (λ (g : Stage). withConfig (c .before .before .before .args .c) (c .before .before .before .args .line) g) (c .before .enum-told3 .given .1))
 
--- src/reading.rt:137:1
 returns-4 : tie.Need-returns-4
-returns-4 c = ?
+unfolding withConfig
+returns-4 c = c .stop3 .ensures ∙ sym (ap (λ (g : Stage). withConfig (c .before .before .before .before .args .c) (c .before .before .before .before .args .line) g) (is-stopped (c .before .before)))
 
 pub with-config-spec : {M : Type 1} → statement M
 with-config-spec =

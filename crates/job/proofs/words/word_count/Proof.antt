@@ -50,11 +50,11 @@ loop-again c =
     let e = ends k in
     ⊎-elim
     (λ w.
-      let here : length (split (drop (l .at) line)) ≡ suc (length (split (drop (k .blank-from .result + 1) line))) = ap length (word-here line (l .at) (k .blank-from .result) (k .blank-from .ensures) (w .0 .taken)) in
-      (omega arith, omega arith, omega arith))
+    let here : length (split (drop (l .at) line)) ≡ suc (length (split (drop (k .blank-from .result + 1) line))) = ap length (word-here line (l .at) (k .blank-from .result) (k .blank-from .ensures) (w .0 .taken)) in
+    (omega arith, omega arith, omega arith))
     (λ w.
-      let here : length (split (drop (l .at) line)) ≡ length (split (drop (k .blank-from .result + 1) line)) = ap length (word-none line (l .at) (k .blank-from .result) (k .blank-from .ensures) (w .0 .left)) in
-      (omega arith, omega arith, omega arith))
+    let here : length (split (drop (l .at) line)) ≡ length (split (drop (k .blank-from .result + 1) line)) = ap length (word-none line (l .at) (k .blank-from .result) (k .blank-from .ensures) (w .0 .left)) in
+    (omega arith, omega arith, omega arith))
     (c .if1 .came)
 
 returns : tie.Need-returns Inv-loop μ-loop

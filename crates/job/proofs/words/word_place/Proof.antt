@@ -61,15 +61,15 @@ loop-again c =
     (λ w. (
       omega arith,
       l .inv .1
-      ∙ ap (word (l .left)) (word-here line (l .at) (k .blank-from .result) (k .blank-from .ensures) (w .0 .taken))
-      ∙ word-next (take (k .blank-from .result - l .at) (drop (l .at) line)) rest (l .left) (w .1 .left)
-      ∙ ap (λ (n : ℕ). word n rest) (sym (w .2)),
+          ∙ ap (word (l .left)) (word-here line (l .at) (k .blank-from .result) (k .blank-from .ensures) (w .0 .taken))
+          ∙ word-next (take (k .blank-from .result - l .at) (drop (l .at) line)) rest (l .left) (w .1 .left)
+          ∙ ap (λ (n : ℕ). word n rest) (sym (w .2)),
     ))
     (λ w. (
       omega arith,
       l .inv .1
-      ∙ ap (word (l .left)) (word-none line (l .at) (k .blank-from .result) (k .blank-from .ensures) (w .0 .left))
-      ∙ ap (λ (n : ℕ). word n rest) (sym (w .1)),
+          ∙ ap (word (l .left)) (word-none line (l .at) (k .blank-from .result) (k .blank-from .ensures) (w .0 .left))
+          ∙ ap (λ (n : ℕ). word n rest) (sym (w .1)),
     ))
     (c .if1 .came)
 
