@@ -1,0 +1,151 @@
+// The two programs: each job that the arguments name, one after the other.
+ghost use Prim.Native.Nat.{_+_, _≤_};
+use crate::page_folder;
+use crate::page_folder::Work;
+use crate::placing;
+use crate::preparing;
+use crate::preparing::Ready;
+use crate::telling;
+use laying::Laid;
+use paint::background::Background;
+use records::layout::Layout;
+
+pub enum Program {
+    Pack,
+    Verify,
+}
+
+fn pack_pages<'a>(
+    folder: &'a [u8],
+    buf: &mut [u8],
+    l: Layout,
+    symbols: &'a [u8],
+    wording: &'a [u8],
+    background: Background,
+) -> bool {
+    os::mkdir(folder);
+    if page_folder::each_page(Work::Write, folder, buf, l, symbols, wording, background) {
+        return page_folder::each_page(Work::Place, folder, buf, l, symbols, wording, background);
+    }
+    page_folder::each_page(Work::Drop, folder, buf, l, symbols, wording, background);
+    false
+}
+
+fn do_pages<'a>(
+    program: Program,
+    folder: &'a [u8],
+    buf: &mut [u8],
+    l: Layout,
+    symbols: &'a [u8],
+    wording: &'a [u8],
+    background: Background,
+) -> bool {
+    match program {
+        Program::Pack => pack_pages(folder, buf, l, symbols, wording, background),
+        Program::Verify => page_folder::each_page(
+            Work::Verify,
+            folder,
+            buf,
+            l,
+            symbols,
+            wording,
+            background,
+        ),
+    }
+}
+
+fn say_laid(program: Program, path: &[u8], ready: Ready, laid: Laid) {
+    match program {
+        Program::Pack => placing::say_places(laid.layout),
+        Program::Verify => {}
+    }
+    let stop = laid.stop;
+    placing::say_stop(path, ready.job, stop);
+}
+
+// A refused image ends it before any page is written.
+fn do_job<'a>(
+    program: Program,
+    path: &'a [u8],
+    folder: &'a [u8],
+    buf: &mut [u8],
+    symbols: &'a [u8],
+    wording: &'a [u8],
+    ready: Ready,
+) -> bool {
+    let laid = laying::lay_out(symbols, wording, ready.job);
+    say_laid(program, path, ready, laid);
+    let stop = laid.stop;
+    if !laying::goes_on(stop) {
+        return false;
+    }
+    do_pages(
+        program,
+        folder,
+        buf,
+        laid.layout,
+        symbols,
+        wording,
+        ready.job.background,
+    )
+}
+
+fn say_end(program: Program, path: &[u8], good: bool) {
+    telling::say(path);
+    match program {
+        Program::Pack => {
+            if good {
+                telling::say(b": packed\n")
+            } else {
+                telling::say(b": NOT PACKED\n")
+            }
+        }
+        Program::Verify => {
+            if good {
+                telling::say(b": verified\n")
+            } else {
+                telling::say(b": NOT VERIFIED\n")
+            }
+        }
+    }
+}
+
+// The job whose four names begin at argument i: the job, the two stores, the folder.
+fn run_job(
+    program: Program,
+    i: usize,
+    buf: &mut [u8],
+    text: &mut [u8],
+    symbols: &mut [u8],
+    wording: &mut [u8],
+)
+    requires { ⌜ i + 3 ≤ 18446744073709551615 ⌝ }
+{
+    let mut job_name = io::buffer();
+    let mut symbols_name = io::buffer();
+    let mut wording_name = io::buffer();
+    let mut folder_name = io::buffer();
+    let a = os::arg(i, &mut job_name);
+    let b = os::arg(i + 1, &mut symbols_name);
+    let c = os::arg(i + 2, &mut wording_name);
+    let d = os::arg(i + 3, &mut folder_name);
+    let ready = preparing::prepare(
+        &job_name[..a],
+        &symbols_name[..b],
+        &wording_name[..c],
+        text,
+        symbols,
+        wording,
+    );
+    let good = ready.good
+        && do_job(
+            program,
+            &job_name[..a],
+            &folder_name[..d],
+            buf,
+            &symbols[..ready.symbols],
+            &wording[..ready.wording],
+            ready,
+        );
+    say_end(program, &job_name[..a], good);
+}
