@@ -1,5 +1,7 @@
 // The two programs: each job that the arguments name, one after the other.
+ghost use mathlib.Core.Path.{_≡_};
 ghost use Prim.Native.Nat.{_+_, _≤_};
+ghost use lib.ListN.{length};
 use crate::page_folder;
 use crate::page_folder::Work;
 use crate::placing;
@@ -73,7 +75,9 @@ fn do_job<'a>(
     wording: &'a [u8],
     ready: Ready,
 ) -> bool {
-    let laid = laying::lay_out(symbols, wording, ready.job);
+    let job = ready.job;
+    let background = job.background;
+    let laid = laying::lay_out(symbols, wording, job);
     say_laid(program, path, ready, laid);
     let stop = laid.stop;
     if !laying::goes_on(stop) {
@@ -86,7 +90,7 @@ fn do_job<'a>(
         laid.layout,
         symbols,
         wording,
-        ready.job.background,
+        background,
     )
 }
 
@@ -110,6 +114,34 @@ fn say_end(program: Program, path: &[u8], good: bool) {
     }
 }
 
+fn prepare_and_do<'a>(
+    program: Program,
+    job_name: &'a [u8],
+    symbols_name: &'a [u8],
+    wording_name: &'a [u8],
+    folder: &'a [u8],
+    buf: &mut [u8],
+    text: &mut [u8],
+    symbols: &mut [u8],
+    wording: &mut [u8],
+) {
+    let ready = preparing::prepare(job_name, symbols_name, wording_name, text, symbols, wording);
+    if !ready.good {
+        say_end(program, job_name, false);
+        return;
+    }
+    let good = do_job(
+        program,
+        job_name,
+        folder,
+        buf,
+        &symbols[..ready.symbols],
+        &wording[..ready.wording],
+        ready,
+    );
+    say_end(program, job_name, good);
+}
+
 // The job whose four names begin at argument i: the job, the two stores, the folder.
 fn run_job(
     program: Program,
@@ -129,23 +161,77 @@ fn run_job(
     let b = os::arg(i + 1, &mut symbols_name);
     let c = os::arg(i + 2, &mut wording_name);
     let d = os::arg(i + 3, &mut folder_name);
-    let ready = preparing::prepare(
+    prepare_and_do(
+        program,
         &job_name[..a],
         &symbols_name[..b],
         &wording_name[..c],
+        &folder_name[..d],
+        buf,
         text,
         symbols,
         wording,
     );
-    let good = ready.good
-        && do_job(
-            program,
-            &job_name[..a],
-            &folder_name[..d],
-            buf,
-            &symbols[..ready.symbols],
-            &wording[..ready.wording],
-            ready,
-        );
-    say_end(program, &job_name[..a], good);
+}
+
+// `count` is how many arguments there are, with the program's own name.
+fn run_jobs(
+    program: Program,
+    count: usize,
+    buf: &mut [u8],
+    text: &mut [u8],
+    symbols: &mut [u8],
+    wording: &mut [u8],
+)
+    requires { ⌜ 5 ≤ count ⌝ }
+{
+    let last = count - 4;
+    let mut i: usize = 1;
+    while i <= last {
+        run_job(program, i, buf, text, symbols, wording);
+        i += 4;
+    }
+}
+
+fn say_usage(program: Program) {
+    match program {
+        Program::Pack => telling::say(
+            b"pack JOB SYMBOLS WORDING FOLDER, as often as there are jobs; writes FOLDER/page-0.rgba and so on\n",
+        ),
+        Program::Verify => telling::say(
+            b"verify JOB SYMBOLS WORDING FOLDER, as often as there are jobs; checks FOLDER/page-0.rgba and so on\n",
+        ),
+    }
+}
+
+// Room for a store, which has at most 1 MiB.
+fn store_room() -> [u8; 1048576]
+    ensures { λ r. ⌜ 1048576 ≡ length r ⌝ }
+{
+    [0u8; 1048576]
+}
+
+// A job's text has at most 64 KiB.
+pub fn run(program: Program) {
+    let mut symbols = store_room();
+    let mut wording = store_room();
+    let mut text = io::large_buffer();
+    let mut buf = io::large_buffer();
+    let count = os::arg_count();
+    if count < 5 {
+        say_usage(program);
+        return;
+    }
+    if count % 4 != 1 {
+        say_usage(program);
+        return;
+    }
+    run_jobs(
+        program,
+        count,
+        &mut buf,
+        &mut text,
+        &mut symbols,
+        &mut wording,
+    );
 }

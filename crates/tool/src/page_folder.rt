@@ -125,6 +125,32 @@ fn with_page<'a>(
     }
 }
 
+fn do_page<'a>(
+    work: Work,
+    folder: &'a [u8],
+    buf: &mut [u8],
+    l: Layout,
+    symbols: &'a [u8],
+    wording: &'a [u8],
+    background: Background,
+    page: Page,
+) -> bool {
+    match layouts::page_size(l, page) {
+        Sized::Is(size) => with_page(
+            work,
+            folder,
+            buf,
+            l,
+            symbols,
+            wording,
+            background,
+            page,
+            size,
+        ),
+        Sized::Refused(_) => without_page(work, folder, page),
+    }
+}
+
 // Whether all went well. A layout has at most 8 pages.
 pub fn each_page<'a>(
     work: Work,
@@ -138,21 +164,7 @@ pub fn each_page<'a>(
     let mut good = true;
     let mut n: u32 = 0;
     while n < 8 {
-        let page = Page(n);
-        let went = match layouts::page_size(l, page) {
-            Sized::Is(size) => with_page(
-                work,
-                folder,
-                buf,
-                l,
-                symbols,
-                wording,
-                background,
-                page,
-                size,
-            ),
-            Sized::Refused(_) => without_page(work, folder, page),
-        };
+        let went = do_page(work, folder, buf, l, symbols, wording, background, Page(n));
         good = good & went;
         n += 1;
     }

@@ -113,10 +113,11 @@ pub fn prepare<'a>(
     let w = load(wording_path, wording);
     let p = reading::read_job(&text[..t.length]);
     let outcome = p.outcome;
+    let job = p.job;
     let parsed = t.good && is_parsed(job_path, outcome);
     Ready {
         good: parsed & s.good & w.good,
-        job: p.job,
+        job,
         symbols: s.length,
         wording: w.length,
     }

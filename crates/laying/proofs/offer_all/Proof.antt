@@ -58,9 +58,10 @@ loop-less c = let u = under (c .before .before .before .before .before) .1 in om
 loop-again : tie.Need-loop-again Inv-loop μ-loop
 loop-again c =
     let u = under (c .before .before .before .before .before) in
-    let few = u .1 in
-    (omega arith,
-    sym (offers-on _ _ (long (c .before .before .before .before .before .before .before .before .before)) _ _ _ (u .0) (u .1) (c .before .before .before .offer-one .ensures) (sym (c .before .before .goes-on .ensures) ∙ not-false _ (c .before .if1 .left))) ∙ c .before .before .before .before .before .before .loop .inv .1)
+    let few = u .1 in (
+      omega arith,
+      sym (offers-on _ _ (long (c .before .before .before .before .before .before .before .before .before)) _ _ _ (u .0) (u .1) (c .before .before .before .offer-one .ensures) (sym (c .before .before .goes-on .ensures) ∙ not-false _ (c .before .if1 .left))) ∙ c .before .before .before .before .before .before .loop .inv .1,
+    )
 
 -- the loop's test fails at the last image, or past the last place
 past : (c : tie.After-loop Inv-loop μ-loop) → min (c .before .before .before .before .args .t4 .count) 256 ≤ c .before .loop .k

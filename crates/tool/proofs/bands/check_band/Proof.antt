@@ -1,8 +1,7 @@
 -- A file that ends too soon ends in one of the rows that were asked. Assumes nothing.
-use Prim.Native.Nat.{_*_, _/_, _<_}
+use Prim.Native.Nat.{_/_, _<_}
 use native.Mathlib.Omega.{arith}
 use native.Mathlib.Nat.{mul-comm, div-lt-iff-lt-mul}
-use mathlib.Core.Path.{_≡_, _∙_}
 use borrow.Author.Needs.{needs}
 use Rattle.tool.proofs.bands.check_band.Statement.{statement}
 use Rattle.tool.proofs.bands.check_band.Tie as tie
