@@ -50,7 +50,7 @@ def triangle(x0, y0, x1, y1, x2, y2):
     return both(under(x0, y0, x1, y1), under(x1, y1, x2, y2), under(x2, y2, x0, y0))
 
 
-AMBER, RED, GREEN, BLUE, WHITE = (255, 176, 0), (224, 32, 48), (32, 176, 80), (64, 144, 255), (240, 240, 240)
+AMBER, RED, GREEN, BLUE, INK = (255, 176, 0), (224, 32, 48), (32, 176, 80), (64, 144, 255), (24, 40, 88)
 
 bell = but(either(disc(16, 13, 8), box(8, 13, 24, 22), box(5, 22, 27, 25), disc(16, 27, 2.5), disc(16, 4, 2)), box(0, 31, 32, 32))
 drop = either(disc(12, 22, 8), triangle(12, 2, 19.2, 18.4, 4.8, 18.4))
@@ -72,14 +72,14 @@ SYMBOLS = [
     picture(32, 32, AMBER, bell),
     picture(24, 32, BLUE, drop),
     picture(32, 32, AMBER, warning),
-    picture(40, 32, WHITE, either(battery, level)),
+    picture(40, 32, INK, either(battery, level)),
     picture(30, 30, RED, heart),
     picture(32, 32, GREEN, play),
     picture(30, 32, AMBER, pause),
     picture(30, 30, RED, stop),
-    picture(24, 28, WHITE, lock),
+    picture(24, 28, INK, lock),
     picture(20, 32, BLUE, up),
-    picture(36, 36, WHITE, clock),
+    picture(36, 36, INK, clock),
     picture(12, 60, GREEN, fill),
 ]
 
@@ -115,8 +115,8 @@ def word(text, colour, scale):
 
 WORDING = [
     word("ALARM", RED, 2),
-    word("BOLUS", WHITE, 2),
-    word("STOP", WHITE, 2),
+    word("BOLUS", INK, 2),
+    word("STOP", INK, 2),
     word("mL/h", BLUE, 2),
     word("DOSE", GREEN, 2),
 ]
@@ -125,7 +125,7 @@ HEAD = """# An infusion pump's symbols and wording, on pages of 128 by 96.
 #      maxw maxh padding border extrusion pages images rotation trim outlines forced
 config 128  96   2       1      1         4     64     on       on   off      off
 #          r  g  b  a   threshold discard
-background 24 32 40 255 none      off
+background 16 24 32 255 none      off
 #     key store   offset width height
 """
 

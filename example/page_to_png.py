@@ -1,5 +1,9 @@
 #!/usr/bin/env python3
-"""page_to_png.py PAGE WIDTH HEIGHT OUT.png [SCALE]: a page file (raw RGBA8 rows) as a PNG picture. Standard library only."""
+"""page_to_png.py PAGE WIDTH HEIGHT OUT.png [SCALE [checks]]
+
+Turns a page file (raw RGBA8 rows, as `pack` writes them) into a PNG picture, each pixel SCALE pixels wide and high. With `checks` what is clear
+shows a grey checkerboard; without it the picture is as clear as the page. Standard library only.
+"""
 import struct
 import sys
 import zlib
@@ -15,23 +19,28 @@ def png(width, height, rows):
     return b"\x89PNG\r\n\x1a\n" + chunk(b"IHDR", head) + chunk(b"IDAT", zlib.compress(data, 9)) + chunk(b"IEND", b"")
 
 
-def enlarged(row, scale):
-    return b"".join(row[i : i + 4] * scale for i in range(0, len(row), 4))
+def on_checks(pixel, x, y):
+    grey = 255 if (x // 2 + y // 2) % 2 else 216
+    alpha = pixel[3]
+    return bytes((part * alpha + grey * (255 - alpha)) // 255 for part in pixel[:3]) + b"\xff"
 
 
 def main():
-    if len(sys.argv) not in (5, 6):
+    if len(sys.argv) not in (5, 6, 7):
         sys.exit(__doc__)
     width, height = int(sys.argv[2]), int(sys.argv[3])
-    scale = int(sys.argv[5]) if len(sys.argv) == 6 else 1
+    scale = int(sys.argv[5]) if len(sys.argv) > 5 else 1
+    checks = len(sys.argv) > 6
     with open(sys.argv[1], "rb") as f:
         page = f.read()
     if len(page) != 4 * width * height:
         sys.exit(f"{sys.argv[1]} has {len(page)} bytes, not {4 * width * height}")
     rows = []
     for y in range(height):
-        row = page[4 * width * y : 4 * width * (y + 1)]
-        rows += [enlarged(row, scale)] * scale
+        pixels = [page[4 * (width * y + x) :][:4] for x in range(width)]
+        if checks:
+            pixels = [on_checks(p, x, y) for x, p in enumerate(pixels)]
+        rows += [b"".join(p * scale for p in pixels)] * scale
     with open(sys.argv[4], "wb") as f:
         f.write(png(width * scale, height * scale, rows))
 

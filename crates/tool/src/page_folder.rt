@@ -35,6 +35,9 @@ fn write_fresh<'a>(
     let k = files::page_path(folder, page.0, b".rgba.new", &mut name);
     let f = page_files::write_file(&name[..k], buf, l, symbols, wording, page, background, size);
     page_files::say_page(page, size, &name[..k]);
+    if bands::is_same(f) {
+        telling::say(b"written and read back, ");
+    }
     page_files::say_filed(f);
     bands::is_same(f)
 }
