@@ -5,3 +5,4 @@ pub mod Splits
 pub mod Sames
 pub mod Sayings
 pub mod Readings
+pub mod Limits

@@ -1,6 +1,6 @@
 // A job's text, line by line.
 ghost use mathlib.Core.Path.{_≡_};
-ghost use Prim.Native.Nat.{_<_};
+ghost use Prim.Native.Nat.{_≤_, _<_};
 ghost use Rattle.job.specs.Lines.{lineIn};
 ghost use Rattle.job.specs.Jobs.{blankEntry, openedJob, blankJob, grounded, entered, stopped, withConfig, withGround, nextImage, withImage, taken, refused, ended, jobIn};
 use crate::lines;
@@ -236,6 +236,7 @@ fn end_job(stage: Stage, j: Job) -> Parsed
 
 pub fn read_job(text: &[u8]) -> Parsed
     ensures { λ r. ⌜ r ≡ jobIn (now (text .entry)) ⌝ }
+    ensures { λ r. ⌜ r .job .count ≤ 256 ⌝ }
 {
     let stage = Stage::Start;
     let mut s = State {

@@ -2,8 +2,8 @@
 use Prim.Native.Nat.{ℕ, _+_, _-_, _≤_}
 use native.Mathlib.Omega.{arith}
 use mathlib.Core.Logic.{⊎-elim}
-use mathlib.Core.Path.{_≡_, refl, sym, ap, _∙_}
-use mathlib.Core.List.{[], _∷_}
+use mathlib.Core.Path.{_≡_, refl, sym, ap, subst, _∙_}
+use mathlib.Core.List.{List, [], _∷_}
 use lib.ListN.{length, take, drop}
 use denote.Enum.Declared.{tagOf}
 use types.Run.{OneOf}
@@ -16,6 +16,7 @@ use Rattle.job.specs.declared.reading.State.{State}
 use Rattle.job.specs.declared.reading.Stage.{Stage}
 use Rattle.job.specs.declared.reading.Stage.the-variants.{Start, Open, Closed, Stopped}
 use Rattle.job.proofs.Pieces.{end-inside}
+use Rattle.job.proofs.Limits.{job-fair}
 use Rattle.job.proofs.Readings.{left, begins, none-left, next-line, halts, goes-on, at-end}
 use Rattle.job.proofs.reading.Stage.{the-type}
 use Rattle.job.proofs.reading.read_job.Statement.{statement}
@@ -26,6 +27,10 @@ Inv-loop text s₀ n₀ at₀ s n at = (at ≤ length text + 1) × (n ≤ at + 1
 
 abbrev μ-loop : tie.MeasureT-loop
 μ-loop text s₀ n₀ at₀ s n at = length text + 1 - at
+
+-- the answer, and how many images it has at most
+answered : (text : List ℕ) (r : Parsed) → r ≡ jobIn text → (r ≡ jobIn text) × (r .job .count ≤ 256)
+answered text r e = (e, subst (λ (p : Parsed). p .job .count ≤ 256) (sym e) (job-fair text .few))
 
 -- a stage of the first three is no end
 going : (g : Stage) (n : ℕ) (rest : Parsed) → OneOf (0 ∷ 1 ∷ 2 ∷ []) (tagOf the-type g) → onward g n rest ≡ rest
@@ -87,7 +92,8 @@ returns c =
     let text = m .before .before .before .before .before .args .text .now in
     let line = take (m .mark-from .result - l .at) (drop (l .at) text) in
     let e : taken (l .n) (lineIn line) (l .s) .stage ≡ Stopped (c .before .before .reached .given .0 .0) = ap (λ (s : State). s .stage) (sym (r .read-line .ensures)) ∙ is-stopped (c .before .before) in
-    c .refuse .ensures ∙ sym (here m ∙ halts (l .n) (l .s) line (left text (m .mark-from .result + 1)) (c .before .before .reached .given .0 .0) e)
+    answered text (c .refuse .result)
+    (c .refuse .ensures ∙ sym (here m ∙ halts (l .n) (l .s) line (left text (m .mark-from .result + 1)) (c .before .before .reached .given .0 .0) e))
 
 add-at : tie.Need-add-at Inv-loop μ-loop
 add-at c = let e = ends (c .before .before .before) in search needs
@@ -121,7 +127,7 @@ returns-2 c =
     let l = c .before .before .before .loop in
     let text = c .before .before .before .before .before .before .args .text .now in
     let none = none-left text (l .at) (c .before .before .loop-test .left) in
-    c .end-job .ensures ∙ sym (l .inv .2 ∙ ap (linesFrom (l .n) (l .s)) none ∙ at-end (l .n) (l .s))
+    answered text (c .end-job .result) (c .end-job .ensures ∙ sym (l .inv .2 ∙ ap (linesFrom (l .n) (l .s)) none ∙ at-end (l .n) (l .s)))
 
 pub read-job-spec : {M : Type 1} → statement M
 read-job-spec =
