@@ -22,7 +22,7 @@ digitsFrom n bs = cond (all isDigit bs && leb (valueFrom n bs) 4294967295) (Is (
 
 -- ## tests
 
-picks : (t : Bool) (m n : ℕ) → cond t (Is n) Not ≡ Is m → (t ≡ true) × (m ≡ n)
+pub picks : (t : Bool) (m n : ℕ) → cond t (Is n) Not ≡ Is m → (t ≡ true) × (m ≡ n)
 picks true m n e = (refl, (cc))
 picks false m n e = let z : _≡_ {A = ℕ} 0 1 = cc in absurd (omega arith)
 

@@ -6,3 +6,5 @@ pub mod Sames
 pub mod Sayings
 pub mod Readings
 pub mod Limits
+pub mod Theorems
+pub mod Table
