@@ -1,5 +1,5 @@
 -- A number digit by digit. Assumes nothing.
-use Prim.Native.Nat.{ℕ, zero, suc, _+_, _*_, _-_, _≤_, _<_}
+use Prim.Native.Nat.{ℕ, _+_, _*_, _-_, _≤_, _<_}
 use native.Mathlib.Omega.{arith}
 use mathlib.Core.Bool.{Bool, true, false, cond, _&&_}
 use mathlib.Core.Path.{_≡_, refl, sym, ap, _∙_}
@@ -8,7 +8,7 @@ use lib.Dec.{leb}
 use lib.ListN.{length}
 use borrow.Author.Tests.{le-leb, lt-leb, leb-true, leb-false}
 use Rattle.geometry.specs.Words.{allOf, all}
-use Rattle.geometry.proofs.Words.{not-both, and-left, and-right, and-no-right}
+use Rattle.geometry.proofs.Words.{and-left, and-right}
 use Rattle.records.proofs.Rows.{and-true}
 use Rattle.job.specs.Bytes.{filled}
 use Rattle.job.specs.Numbers.{isDigit, valueFrom, numberIn}

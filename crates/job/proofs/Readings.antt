@@ -1,7 +1,7 @@
 -- A job's lines, as a loop over its text finds them. Assumes nothing.
 use Prim.Native.Nat.{ℕ, suc, _+_, _-_, _≤_, _<_}
 use native.Mathlib.Omega.{arith}
-use mathlib.Core.Bool.{Bool, true, false, cond}
+use mathlib.Core.Bool.{Bool, cond}
 use mathlib.Core.Logic.{_⊎_, inl, inr}
 use mathlib.Core.Path.{_≡_, refl, sym, ap, ap₂, _∙_}
 use mathlib.Core.List.{List, [], _∷_}
@@ -12,13 +12,10 @@ use borrow.Author.Tests.{le-leb, lt-leb}
 use Rattle.job.specs.Bytes.{upTo, pieces, isFeed}
 use Rattle.job.specs.Lines.{lineIn}
 use Rattle.job.specs.Jobs.{blankJob, state, taken, after, linesIn}
-use Rattle.job.specs.declared.lines.Trouble.{Trouble}
 use Rattle.job.specs.declared.reading.Job.{Job}
-use Rattle.job.specs.declared.reading.Parsed.{Parsed}
 use Rattle.job.specs.declared.reading.State.{State}
-use Rattle.job.specs.declared.reading.Stage.{Stage}
-use Rattle.job.specs.declared.reading.Stage.the-variants.{Start, Open, Closed, Stopped}
-use Rattle.job.proofs.Pieces.{endFrom, end-inside, is-take, last-piece, first-piece}
+use Rattle.job.specs.declared.reading.Stage.the-variants.{Start}
+use Rattle.job.proofs.Pieces.{endFrom, is-take, last-piece, first-piece}
 use Rattle.job.proofs.Splits.{or-less}
 
 -- the lines from a place on: none past the end

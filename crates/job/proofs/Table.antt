@@ -46,7 +46,7 @@ examples-hold = (refl, (refl, (refl, (refl, tt))))
 
 pub accepted-hold : Each acceptedRows
 unfolding rules
-accepted-hold = (refl, (refl, (refl, tt)))
+accepted-hold = (refl, (refl, (refl, (refl, tt))))
 
 pub missing-hold : Each missingRows
 unfolding rules

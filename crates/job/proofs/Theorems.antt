@@ -1,8 +1,7 @@
 -- What holds of the definitions of a job's text, each theorem under the sentence of docs/JOB.md that it carries. Assumes nothing.
 use Prim.Native.Nat.{ℕ, _≤_}
 use native.Mathlib.Omega.{arith}
-use mathlib.Core.Bool.{Bool, true, false, cond}
-use mathlib.Core.Path.{_≡_, refl, sym, ap, _∙_}
+use mathlib.Core.Path.{_≡_}
 use mathlib.Core.List.{List, [], _∷_}
 use lib.Dec.{leb}
 use borrow.Author.Tests.{leb-true}
@@ -14,7 +13,7 @@ use Rattle.job.specs.Numbers.{isDigit, valueFrom, numberIn}
 use Rattle.job.specs.Lines.{lineIn}
 use Rattle.job.specs.Jobs.{blankJob, jobIn}
 use Rattle.job.specs.declared.numbers.Number.{Number}
-use Rattle.job.specs.declared.numbers.Number.the-variants.{Is, Not}
+use Rattle.job.specs.declared.numbers.Number.the-variants.{Is}
 use Rattle.job.specs.declared.lines.Line.{Line}
 use Rattle.job.specs.declared.lines.Trouble.{Trouble}
 use Rattle.job.specs.declared.reading.Parsed.{Parsed}

@@ -3,10 +3,9 @@
 use Prim.Native.Nat.{ℕ}
 use Prim.Native.String.{String, _++_}
 use mathlib.Core.Bool.{Bool, cond}
-use mathlib.Core.List.{List, [], _∷_, map}
+use mathlib.Core.List.{List, [], _∷_}
 use lib.ListN.{take, replicate}
 use Rattle.art.specs.declared.memory_rgba8_texture.Image.{Image}
-use Rattle.art.specs.declared.memory_rgba8_texture.Pixel.{Pixel}
 use Rattle.art.specs.declared.memory_rgba8_texture.Store.{Store}
 use Rattle.art.specs.declared.memory_rgba8_texture.Store.the-variants.{Symbols, Wording}
 use Rattle.geometry.specs.Words.{flat}
@@ -211,16 +210,24 @@ imageRows =
 
 -- ## jobs
 
--- the document's example, with the ends of lines of another system, and no end of the last line
+-- docs/JOB.md's example
 unfoldable pub example : String
-example = "# a job\r\nconfig 256 256 2 0 1 4 256 on on off off\r\n\r\nbackground 255 255 255 255 none off\r\nimage 1 symbols 0 24 24\r\nimage 2 wording 2304 48 16"
+example =
+    "# comments begin with a hash\n"
+    ++ "#      maxw maxh padding border extrusion pages images rotation trim outlines forced\n"
+    ++ "config 256  256  2       0      1         4     256    on       on   off      off\n"
+    ++ "#          r   g   b   a   threshold discard\n"
+    ++ "background 255 255 255 255 none      off\n"
+    ++ "#     key store   offset width height\n"
+    ++ "image 1   symbols 0      24    24\n"
+    ++ "image 2   wording 2304   48    16\n"
 
 unfoldable pub exampleRows : List Row
 exampleRows =
-    (job example, 0 ∷ 2 ∷ 2 ∷ [])
+    (job example, 0 ∷ 3 ∷ 2 ∷ [])
     ∷ (settings example, 256 ∷ 256 ∷ 2 ∷ 0 ∷ 1 ∷ 4 ∷ 256 ∷ 1 ∷ 1 ∷ 0 ∷ 0 ∷ [])
     ∷ (ground example, 255 ∷ 255 ∷ 255 ∷ 255 ∷ 256 ∷ 0 ∷ [])
-    ∷ (entries example, 1 ∷ 5 ∷ 0 ∷ 0 ∷ 24 ∷ 24 ∷ 2 ∷ 6 ∷ 1 ∷ 2304 ∷ 48 ∷ 16 ∷ [])
+    ∷ (entries example, 1 ∷ 7 ∷ 0 ∷ 0 ∷ 24 ∷ 24 ∷ 2 ∷ 8 ∷ 1 ∷ 2304 ∷ 48 ∷ 16 ∷ [])
     ∷ []
 
 unfoldable pub acceptedRows : List Row
@@ -228,6 +235,8 @@ acceptedRows =
     -- the same key twice is the offer's to refuse; no background line is no background
     (entries "config 1 2 3 4 5 6 7 on off on off\nimage 9 symbols 8 7 6\nimage 9 symbols 8 7 6\n", 9 ∷ 2 ∷ 0 ∷ 8 ∷ 7 ∷ 6 ∷ 9 ∷ 3 ∷ 0 ∷ 8 ∷ 7 ∷ 6 ∷ [])
     ∷ (ground "config 1 2 3 4 5 6 7 on off on off", [])
+    -- lines that end with carriage return and line feed, and no end of the last line
+    ∷ (entries "\r\nconfig 1 2 3 4 5 6 7 on off on off\r\nimage 9 symbols 8 7 6\r\nimage 5 wording 4 3 2", 9 ∷ 3 ∷ 0 ∷ 8 ∷ 7 ∷ 6 ∷ 5 ∷ 4 ∷ 1 ∷ 4 ∷ 3 ∷ 2 ∷ [])
     ∷ (job "config 1 2 3 4 5 6 7 on off on off\nbackground none\nimage 9 wording 8 7 6", 0 ∷ 1 ∷ 1 ∷ [])
     ∷ []
 

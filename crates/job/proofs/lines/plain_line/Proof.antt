@@ -1,6 +1,5 @@
 -- `plain_line` goes by the first word. Assumes nothing.
-use Prim.Native.Nat.{ℕ}
-use mathlib.Core.Path.{_≡_, sym, ap, ap₂, _∙_}
+use mathlib.Core.Path.{sym, _∙_}
 use Rattle.job.specs.Bytes.{bytesOf}
 use Rattle.job.specs.Words.{split}
 use Rattle.job.specs.Lines.{configLine, groundLine, imageLine}

@@ -1,5 +1,5 @@
 -- `next_image` has 256 places. Assumes nothing.
-use mathlib.Core.Path.{_≡_, sym, ap, _∙_}
+use mathlib.Core.Path.{ap, _∙_}
 use borrow.Author.Tests.{lt-ltb, le-ltb}
 use Rattle.job.specs.Jobs.{state, stopped, entered, nextImage}
 use Rattle.job.specs.declared.reading.Stage.the-variants.{Closed}

@@ -7,7 +7,6 @@ use lib.ListN.{length, take, drop}
 use borrow.Author.Needs.{needs}
 use Rattle.job.specs.Bytes.{isFeed}
 use Rattle.job.specs.Jobs.{blankJob, state, after, linesIn}
-use Rattle.job.specs.declared.reading.State.{State}
 use Rattle.job.specs.declared.reading.Stage.the-variants.{Start}
 use Rattle.job.proofs.Pieces.{end-inside}
 use Rattle.job.proofs.Readings.{left, begins, none-left, next-line, takes, at-end}

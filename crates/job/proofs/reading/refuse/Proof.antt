@@ -1,5 +1,5 @@
 -- `refuse` says the trouble and its line. Assumes nothing.
-use mathlib.Core.Path.{_≡_, sym, ap, _∙_}
+use mathlib.Core.Path.{ap}
 use Rattle.job.specs.Jobs.{refused}
 use Rattle.job.specs.declared.reading.Job.{Job}
 use Rattle.job.specs.declared.reading.Outcome.the-variants.{Refused}

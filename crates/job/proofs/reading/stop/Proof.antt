@@ -1,5 +1,5 @@
 -- `stop` keeps the trouble, its line and a blank job. Assumes nothing.
-use mathlib.Core.Path.{_≡_, sym, ap, _∙_}
+use mathlib.Core.Path.{ap}
 use Rattle.job.specs.Jobs.{state}
 use Rattle.job.specs.declared.reading.Stage.the-variants.{Stopped}
 use borrow.Author.Needs.{needs}

@@ -1,6 +1,6 @@
 -- `is_store` compares with both words. Assumes nothing.
 use mathlib.Core.Bool.{_||_}
-use mathlib.Core.Path.{_≡_, sym, ap, ap₂, _∙_}
+use mathlib.Core.Path.{ap₂}
 use Rattle.job.specs.Bytes.{bytesOf}
 use Rattle.job.specs.Words.{isStore}
 use borrow.Author.Needs.{needs}

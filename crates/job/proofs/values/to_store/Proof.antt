@@ -1,5 +1,5 @@
 -- `to_store` is the store that the word names. Assumes nothing.
-use mathlib.Core.Path.{_≡_, sym, ap, ap₂, _∙_}
+use mathlib.Core.Path.{sym, _∙_}
 use Rattle.job.specs.Bytes.{bytesOf}
 use Rattle.job.specs.Words.{toStore}
 use Rattle.art.specs.declared.memory_rgba8_texture.Store.the-variants.{Symbols, Wording}

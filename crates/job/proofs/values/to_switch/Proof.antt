@@ -1,5 +1,4 @@
 -- `to_switch` is on where the word is. Assumes nothing.
-use mathlib.Core.Path.{_≡_, sym, ap, ap₂, _∙_}
 use Rattle.job.specs.Bytes.{bytesOf}
 use Rattle.job.specs.Words.{toSwitch}
 use borrow.Author.Needs.{needs}

@@ -1,5 +1,5 @@
 -- `to_threshold` is unset where the word is none. Assumes nothing.
-use mathlib.Core.Path.{_≡_, sym, ap, ap₂, _∙_}
+use mathlib.Core.Path.{sym, ap, _∙_}
 use Rattle.job.specs.Bytes.{bytesOf}
 use Rattle.job.specs.Words.{word, split, toPart, toThreshold}
 use Rattle.paint.specs.declared.background.Threshold.the-variants.{Unset, AtMost}
