@@ -5,3 +5,6 @@ pub mod Splits
 pub mod Sames
 pub mod Sayings
 pub mod Readings
+pub mod Limits
+pub mod Theorems
+pub mod Table

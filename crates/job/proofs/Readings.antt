@@ -1,7 +1,7 @@
 -- A job's lines, as a loop over its text finds them. Assumes nothing.
 use Prim.Native.Nat.{ℕ, suc, _+_, _-_, _≤_, _<_}
 use native.Mathlib.Omega.{arith}
-use mathlib.Core.Bool.{Bool, true, false, cond}
+use mathlib.Core.Bool.{Bool, cond}
 use mathlib.Core.Logic.{_⊎_, inl, inr}
 use mathlib.Core.Path.{_≡_, refl, sym, ap, ap₂, _∙_}
 use mathlib.Core.List.{List, [], _∷_}
@@ -11,25 +11,22 @@ use lib.Seq.{drop-drop, take-all}
 use borrow.Author.Tests.{le-leb, lt-leb}
 use Rattle.job.specs.Bytes.{upTo, pieces, isFeed}
 use Rattle.job.specs.Lines.{lineIn}
-use Rattle.job.specs.Jobs.{blankJob, state, taken, refused, ended, onward, linesFrom, linesIn, jobIn}
-use Rattle.job.specs.declared.lines.Trouble.{Trouble}
+use Rattle.job.specs.Jobs.{blankJob, state, taken, after, linesIn}
 use Rattle.job.specs.declared.reading.Job.{Job}
-use Rattle.job.specs.declared.reading.Parsed.{Parsed}
 use Rattle.job.specs.declared.reading.State.{State}
-use Rattle.job.specs.declared.reading.Stage.{Stage}
-use Rattle.job.specs.declared.reading.Stage.the-variants.{Start, Open, Closed, Stopped}
-use Rattle.job.proofs.Pieces.{endFrom, end-inside, is-take, last-piece, first-piece}
+use Rattle.job.specs.declared.reading.Stage.the-variants.{Start}
+use Rattle.job.proofs.Pieces.{endFrom, is-take, last-piece, first-piece}
 use Rattle.job.proofs.Splits.{or-less}
 
 -- the lines from a place on: none past the end
 unfoldable pub left : List ℕ → ℕ → List (List ℕ)
 left text at = cond (leb at (length text)) (pieces isFeed (drop at text)) []
 
-pub begins : (text : List ℕ) (j : Job) → j ≡ blankJob → jobIn text ≡ linesFrom 1 (state Start j) (left text 0)
-unfolding jobIn linesIn left
+pub begins : (text : List ℕ) (j : Job) → j ≡ blankJob → after 1 (linesIn text) (state Start blankJob) ≡ after 1 (left text 0) (state Start j)
+unfolding linesIn left
 begins text j e =
-    ap (λ (k : Job). linesFrom 1 (state Start k) (pieces isFeed text)) (sym e)
-    ∙ ap (λ (b : Bool). linesFrom 1 (state Start j) (cond b (pieces isFeed text) [])) (sym (le-leb 0 (length text) (omega arith)))
+    ap (λ (k : Job). after 1 (pieces isFeed text) (state Start k)) (sym e)
+    ∙ ap (λ (b : Bool). after 1 (cond b (pieces isFeed text) []) (state Start j)) (sym (le-leb 0 (length text) (omega arith)))
 
 pub none-left : (text : List ℕ) (at : ℕ) → length text < at → left text at ≡ []
 unfolding left
@@ -40,9 +37,6 @@ unfolding left
 some-left text at h = ap (λ (b : Bool). cond b (pieces isFeed (drop at text)) []) (le-leb at (length text) h)
 
 module _ (text : List ℕ) (at end : ℕ) (e : end ≡ endFrom isFeed text at) (h : at ≤ length text) where
-  line : List ℕ
-  line = drop at text
-
   size : length (upTo isFeed (drop at text)) ≡ end - at
   size = omega arith
 
@@ -71,17 +65,10 @@ module _ (text : List ℕ) (at end : ℕ) (e : end ≡ endFrom isFeed text at) (
 
 -- ## one line of them
 
-module _ (n : ℕ) (s : State) (l : List ℕ) (ls : List (List ℕ)) where
-  -- it ends there
-  pub halts : (t : Trouble) → taken n (lineIn l) s .stage ≡ Stopped t → linesFrom n s (l ∷ ls) ≡ refused t n
-  unfolding linesFrom onward
-  halts t e = ap (λ (g : Stage). onward g n (linesFrom (n + 1) (taken n (lineIn l) s) ls)) e
+pub takes : (n : ℕ) (l : List ℕ) (ls : List (List ℕ)) (s : State) → after n (l ∷ ls) s ≡ after (n + 1) ls (taken n (lineIn l) s)
+unfolding after
+takes n l ls s = refl
 
-  -- it goes on
-  pub goes-on : ((rest : Parsed) → onward (taken n (lineIn l) s .stage) n rest ≡ rest) → linesFrom n s (l ∷ ls) ≡ linesFrom (n + 1) (taken n (lineIn l) s) ls
-  unfolding linesFrom
-  goes-on h = h (linesFrom (n + 1) (taken n (lineIn l) s) ls)
-
-pub at-end : (n : ℕ) (s : State) → linesFrom n s [] ≡ ended (s .stage) (s .job)
-unfolding linesFrom
+pub at-end : (n : ℕ) (s : State) → after n [] s ≡ s
+unfolding after
 at-end n s = refl

@@ -5,9 +5,9 @@ use mathlib.Core.Bool.{cond}
 use mathlib.Core.Path.{_≡_, refl, sym, ap, _∙_}
 use mathlib.Core.List.{List, [], _∷_}
 use lib.ListN.{length, take}
-use Rattle.job.specs.Bytes.{same, upTo, isHash}
+use Rattle.job.specs.Bytes.{says, upTo, isHash}
 use Rattle.job.specs.Words.{uncommented, split, wordsIn, word}
-use Rattle.job.specs.Lines.{configWord, backgroundWord, imageWord, configLine, groundLine, imageLine, said, lineIn}
+use Rattle.job.specs.Lines.{configLine, groundLine, imageLine, said, lineIn}
 use Rattle.job.specs.declared.lines.Line.{Line}
 use Rattle.job.specs.declared.lines.Line.the-variants.{Empty, Malformed}
 use Rattle.job.specs.declared.lines.Trouble.the-variants.{UnknownWord}
@@ -15,17 +15,17 @@ use Rattle.job.proofs.Pieces.{is-take}
 
 -- what is left when the line is no configuration; no background
 abbrev pub orImage : List (List ℕ) → Line
-orImage ws = cond (same (word 0 ws) imageWord) (imageLine ws) (Malformed UnknownWord)
+orImage ws = cond (says "image" (word 0 ws)) (imageLine ws) (Malformed UnknownWord)
 
 abbrev pub orGround : List (List ℕ) → Line
-orGround ws = cond (same (word 0 ws) backgroundWord) (groundLine ws) (orImage ws)
+orGround ws = cond (says "background" (word 0 ws)) (groundLine ws) (orImage ws)
 
 pub said-none : (ws : List (List ℕ)) → length ws ≡ 0 → said ws ≡ Empty
 unfolding said
 said-none [] h = refl
 said-none (w ∷ ws) h = absurd (omega arith)
 
-pub said-some : (ws : List (List ℕ)) → (length ws ≡ 0 → ⊥) → said ws ≡ cond (same (word 0 ws) configWord) (configLine ws) (orGround ws)
+pub said-some : (ws : List (List ℕ)) → (length ws ≡ 0 → ⊥) → said ws ≡ cond (says "config" (word 0 ws)) (configLine ws) (orGround ws)
 unfolding said
 said-some [] h = absurd (h refl)
 said-some (w ∷ ws) h = refl

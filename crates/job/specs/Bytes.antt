@@ -1,6 +1,8 @@
 -- A text as a list of bytes: what stands before a mark, and the pieces between marks.
 -- Assumes nothing.
 use Prim.Native.Nat.{ℕ}
+use Prim.Native.Char.{code}
+use Prim.Native.String.{String, [] as end, _∷_ as _then_}
 use mathlib.Core.Bool.{Bool, true, false, cond, _&&_, _||_}
 use mathlib.Core.List.{List, [], _∷_}
 use lib.Dec.{eqb}
@@ -30,6 +32,15 @@ same [] [] = true
 same [] (b ∷ bs) = false
 same (a ∷ as') [] = false
 same (a ∷ as') (b ∷ bs) = eqb a b && same as' bs
+
+-- a text in quotes, by the codes of its letters; they are its bytes, for every such text here is ASCII
+unfoldable pub bytesOf : String → List ℕ
+bytesOf end = []
+bytesOf (c then cs) = code c ∷ bytesOf cs
+
+-- the word is this text
+abbrev pub says : String → List ℕ → Bool
+says text w = same w (bytesOf text)
 
 -- line feed
 abbrev pub isFeed : ℕ → Bool

@@ -52,45 +52,56 @@ entered j k i n =
       count = j .count + 1;
     }
 
--- ## one line: `Start` before the config line, `Open` after it, `Closed` after a background or an image, `Stopped` at a trouble
+-- ## one line: `Start` before the config line, `Open` after it, `Closed` after a background or an image, `Stopped` at the first trouble and its line
 
 abbrev pub state : Stage → Job → State
 state g j = record { stage = g; job = j }
 
-abbrev pub stopped : Trouble → State
-stopped t = state (Stopped t) blankJob
+abbrev pub stopped : Trouble → ℕ → State
+stopped t n = state (Stopped t n) blankJob
 
 unfoldable pub withConfig : Config → ℕ → Stage → State
 withConfig c n Start = state Open (openedJob c n)
-withConfig c n Open = stopped SecondConfig
-withConfig c n Closed = stopped SecondConfig
-withConfig c n (Stopped t) = stopped t
+withConfig c n Open = stopped SecondConfig n
+withConfig c n Closed = stopped SecondConfig n
+withConfig c n (Stopped t k) = stopped t k
 
-unfoldable pub withGround : Background → Stage → Job → State
-withGround g Start j = stopped NoConfig
-withGround g Open j = state Closed (grounded j g)
-withGround g Closed j = stopped LateBackground
-withGround g (Stopped t) j = stopped t
+unfoldable pub withGround : Background → ℕ → Stage → Job → State
+withGround g n Start j = stopped NoConfig n
+withGround g n Open j = state Closed (grounded j g)
+withGround g n Closed j = stopped LateBackground n
+withGround g n (Stopped t k) j = stopped t k
 
 -- at most 256 images
 unfoldable pub nextImage : Key → Image → ℕ → Job → State
-nextImage k i n j = cond (ltb (j .count) 256) (state Closed (entered j k i n)) (stopped TooManyImages)
+nextImage key i n j = cond (ltb (j .count) 256) (state Closed (entered j key i n)) (stopped TooManyImages n)
 
 unfoldable pub withImage : Key → Image → ℕ → Stage → Job → State
-withImage k i n Start j = stopped NoConfig
-withImage k i n Open j = nextImage k i n j
-withImage k i n Closed j = nextImage k i n j
-withImage k i n (Stopped t) j = stopped t
+withImage key i n Start j = stopped NoConfig n
+withImage key i n Open j = nextImage key i n j
+withImage key i n Closed j = nextImage key i n j
+withImage key i n (Stopped t k) j = stopped t k
+
+unfoldable pub withTrouble : Trouble → ℕ → Stage → State
+withTrouble t n Start = stopped t n
+withTrouble t n Open = stopped t n
+withTrouble t n Closed = stopped t n
+withTrouble t n (Stopped u k) = stopped u k
 
 -- the state after line n
 unfoldable pub taken : ℕ → Line → State → State
 taken n Empty s = s
 taken n (Settings c) s = withConfig c n (s .stage)
-taken n (Ground g) s = withGround g (s .stage) (s .job)
-taken n (Picture k i) s = withImage k i n (s .stage) (s .job)
-taken n (Malformed t) s = stopped t
+taken n (Ground g) s = withGround g n (s .stage) (s .job)
+taken n (Picture key i) s = withImage key i n (s .stage) (s .job)
+taken n (Malformed t) s = withTrouble t n (s .stage)
 
 -- ## all lines
+
+-- the state after these lines, of which the first is line n
+unfoldable pub after : ℕ → List (List ℕ) → State → State
+after n [] s = s
+after n (l ∷ ls) s = after (n + 1) ls (taken n (lineIn l) s)
 
 unfoldable pub done : Job → Parsed
 done j = record { outcome = Done; job = j }
@@ -99,28 +110,19 @@ done j = record { outcome = Done; job = j }
 unfoldable pub refused : Trouble → ℕ → Parsed
 refused t n = record { outcome = Refused t n; job = blankJob }
 
--- at the end of the text; no config line at all is a trouble of line 1
+-- at the end of the text; that there is no config line at all is a trouble of line 1
 unfoldable pub ended : Stage → Job → Parsed
 ended Start j = refused NoConfig 1
 ended Open j = done j
 ended Closed j = done j
-ended (Stopped t) j = refused t 1
+ended (Stopped t n) j = refused t n
 
--- a trouble in line n ends it; else it goes on
-unfoldable pub onward : Stage → ℕ → Parsed → Parsed
-onward (Stopped t) n rest = refused t n
-onward Start n rest = rest
-onward Open n rest = rest
-onward Closed n rest = rest
-
--- the lines from line n on
-unfoldable pub linesFrom : ℕ → State → List (List ℕ) → Parsed
-linesFrom n s [] = ended (s .stage) (s .job)
-linesFrom n s (l ∷ ls) = onward (taken n (lineIn l) s .stage) n (linesFrom (n + 1) (taken n (lineIn l) s) ls)
+abbrev pub finished : State → Parsed
+finished s = ended (s .stage) (s .job)
 
 -- lines end at line feeds, and are numbered from 1
 unfoldable pub linesIn : List ℕ → List (List ℕ)
 linesIn text = pieces isFeed text
 
 unfoldable pub jobIn : List ℕ → Parsed
-jobIn text = linesFrom 1 (state Start blankJob) (linesIn text)
+jobIn text = finished (after 1 (linesIn text) (state Start blankJob))

@@ -4,3 +4,4 @@ pub mod Words
 pub mod Steps
 pub mod Lines
 pub mod Jobs
+pub mod Table

@@ -12,23 +12,11 @@ use Rattle.records.specs.declared.texture_packer_config.Config.{Config}
 use Rattle.records.specs.declared.frame.Key.{Key}
 use Rattle.paint.specs.declared.background.Background.{Background}
 use Rattle.paint.specs.declared.background.Background.the-variants.{Clear, Colour}
-use Rattle.job.specs.Bytes.{same}
-use Rattle.job.specs.Words.{wordsIn, word, noneWord, isNumber, toNumber, isPart, toPart, isSwitch, toSwitch, isStore, toStore, isThreshold, toThreshold}
+use Rattle.job.specs.Bytes.{says}
+use Rattle.job.specs.Words.{wordsIn, word, isNumber, toNumber, isPart, toPart, isSwitch, toSwitch, isStore, toStore, isThreshold, toThreshold}
 use Rattle.job.specs.declared.lines.Line.{Line}
 use Rattle.job.specs.declared.lines.Line.the-variants.{Empty, Settings, Ground, Picture, Malformed}
 use Rattle.job.specs.declared.lines.Trouble.the-variants.{UnknownWord, BadConfig, BadBackground, BadImage}
-
--- config
-abbrev pub configWord : List ℕ
-configWord = 99 ∷ 111 ∷ 110 ∷ 102 ∷ 105 ∷ 103 ∷ []
-
--- background
-abbrev pub backgroundWord : List ℕ
-backgroundWord = 98 ∷ 97 ∷ 99 ∷ 107 ∷ 103 ∷ 114 ∷ 111 ∷ 117 ∷ 110 ∷ 100 ∷ []
-
--- image
-abbrev pub imageWord : List ℕ
-imageWord = 105 ∷ 109 ∷ 97 ∷ 103 ∷ 101 ∷ []
 
 -- ## config: 7 numbers and 4 switches
 
@@ -71,7 +59,7 @@ configLine ws = cond (configOk ws) (Settings (configOf ws)) (Malformed BadConfig
 -- ## background: none; or red, green, blue, alpha, threshold, discard
 
 unfoldable pub clearOk : List (List ℕ) → Bool
-clearOk ws = eqb (length ws) 2 && same (word 1 ws) noneWord
+clearOk ws = eqb (length ws) 2 && says "none" (word 1 ws)
 
 unfoldable pub colourOk : List (List ℕ) → Bool
 colourOk ws =
@@ -127,9 +115,9 @@ imageLine ws = cond (imageOk ws) (Picture (keyOf ws) (imageOf ws)) (Malformed Ba
 unfoldable pub said : List (List ℕ) → Line
 said [] = Empty
 said (w ∷ ws) =
-    cond (same w configWord) (configLine (w ∷ ws))
-    (cond (same w backgroundWord) (groundLine (w ∷ ws))
-    (cond (same w imageWord) (imageLine (w ∷ ws))
+    cond (says "config" w) (configLine (w ∷ ws))
+    (cond (says "background" w) (groundLine (w ∷ ws))
+    (cond (says "image" w) (imageLine (w ∷ ws))
     (Malformed UnknownWord)))
 
 unfoldable pub lineIn : List ℕ → Line

@@ -2,7 +2,7 @@
 -- Assumes nothing.
 use Prim.Native.Nat.{ℕ}
 use mathlib.Core.Bool.{Bool, true, false, cond, _||_}
-use mathlib.Core.List.{List, [], _∷_}
+use mathlib.Core.List.{List, []}
 use lib.Dec.{leb}
 use lib.ListN.{getD}
 use Rattle.geometry.specs.Words.{only}
@@ -10,7 +10,7 @@ use Rattle.art.specs.declared.memory_rgba8_texture.Store.{Store}
 use Rattle.art.specs.declared.memory_rgba8_texture.Store.the-variants.{Symbols, Wording}
 use Rattle.paint.specs.declared.background.Threshold.{Threshold}
 use Rattle.paint.specs.declared.background.Threshold.the-variants.{Unset, AtMost}
-use Rattle.job.specs.Bytes.{upTo, pieces, filled, same, isHash, isBlank}
+use Rattle.job.specs.Bytes.{upTo, pieces, filled, says, isHash, isBlank}
 use Rattle.job.specs.Numbers.{numberIn}
 use Rattle.job.specs.declared.numbers.Number.{Number}
 use Rattle.job.specs.declared.numbers.Number.the-variants.{Is, Not}
@@ -31,26 +31,6 @@ wordsIn line = split (uncommented line)
 -- word n, counted from 0; empty past the last, and no value is empty
 abbrev pub word : ℕ → List (List ℕ) → List ℕ
 word n ws = getD ws n []
-
--- on
-abbrev pub onWord : List ℕ
-onWord = 111 ∷ 110 ∷ []
-
--- off
-abbrev pub offWord : List ℕ
-offWord = 111 ∷ 102 ∷ 102 ∷ []
-
--- none
-abbrev pub noneWord : List ℕ
-noneWord = 110 ∷ 111 ∷ 110 ∷ 101 ∷ []
-
--- symbols
-abbrev pub symbolsWord : List ℕ
-symbolsWord = 115 ∷ 121 ∷ 109 ∷ 98 ∷ 111 ∷ 108 ∷ 115 ∷ []
-
--- wording
-abbrev pub wordingWord : List ℕ
-wordingWord = 119 ∷ 111 ∷ 114 ∷ 100 ∷ 105 ∷ 110 ∷ 103 ∷ []
 
 -- ## kinds of values: whether a word is one, and which it is if so
 
@@ -81,21 +61,21 @@ toPart w = cond (isPart w) (toNumber w) 0
 
 -- a switch: on or off
 unfoldable pub isSwitch : List ℕ → Bool
-isSwitch w = same w onWord || same w offWord
+isSwitch w = says "on" w || says "off" w
 
 unfoldable pub toSwitch : List ℕ → Bool
-toSwitch w = same w onWord
+toSwitch w = says "on" w
 
 -- a store: symbols or wording
 unfoldable pub isStore : List ℕ → Bool
-isStore w = same w symbolsWord || same w wordingWord
+isStore w = says "symbols" w || says "wording" w
 
 unfoldable pub toStore : List ℕ → Store
-toStore w = cond (same w symbolsWord) Symbols Wording
+toStore w = cond (says "symbols" w) Symbols Wording
 
 -- a threshold: none or a number to 255
 unfoldable pub isThreshold : List ℕ → Bool
-isThreshold w = same w noneWord || isPart w
+isThreshold w = says "none" w || isPart w
 
 unfoldable pub toThreshold : List ℕ → Threshold
-toThreshold w = cond (same w noneWord) Unset (AtMost (toPart w))
+toThreshold w = cond (says "none" w) Unset (AtMost (toPart w))

@@ -1,8 +1,9 @@
 // A job's text, line by line.
 ghost use mathlib.Core.Path.{_≡_};
-ghost use Prim.Native.Nat.{_<_};
+ghost use Prim.Native.Nat.{_≤_, _<_};
 ghost use Rattle.job.specs.Lines.{lineIn};
-ghost use Rattle.job.specs.Jobs.{blankEntry, openedJob, blankJob, grounded, entered, stopped, withConfig, withGround, nextImage, withImage, taken, refused, ended, jobIn};
+ghost use Rattle.job.specs.Jobs.{blankEntry, openedJob, blankJob, grounded, entered, state, stopped, withConfig, withGround, nextImage, withImage, withTrouble, taken, after, refused, ended, linesIn, jobIn};
+ghost use Rattle.job.specs.declared.reading.Stage.the-variants.{Start};
 use crate::lines;
 use crate::lines::Line;
 use crate::lines::Trouble;
@@ -41,12 +42,12 @@ pub struct Parsed {
     pub job: Job,
 }
 
-// Before the config line; after it; after a background or an image; at a trouble.
+// Before the config line; after it; after a background or an image; at the first trouble and its line.
 pub enum Stage {
     Start,
     Open,
     Closed,
-    Stopped(Trouble),
+    Stopped(Trouble, usize),
 }
 
 pub struct State {
@@ -124,64 +125,76 @@ fn entered_job(j: Job, key: Key, image: Image, line: usize) -> Job
     }
 }
 
-fn stop(t: Trouble) -> State
-    ensures { λ r. ⌜ r ≡ stopped t ⌝ }
+fn stop(t: Trouble, n: usize) -> State
+    ensures { λ r. ⌜ r ≡ stopped t n ⌝ }
 {
-    let stage = Stage::Stopped(t);
+    let stage = Stage::Stopped(t, n);
     State {
         stage,
         job: blank_job(),
     }
 }
 
-fn with_config(c: Config, line: usize, stage: Stage) -> State
-    ensures { λ r. ⌜ r ≡ withConfig c line stage ⌝ }
+fn with_config(c: Config, n: usize, stage: Stage) -> State
+    ensures { λ r. ⌜ r ≡ withConfig c n stage ⌝ }
 {
     match stage {
         Stage::Start => State {
             stage: Stage::Open,
-            job: opened_job(c, line),
+            job: opened_job(c, n),
         },
-        Stage::Open => stop(Trouble::SecondConfig),
-        Stage::Closed => stop(Trouble::SecondConfig),
-        Stage::Stopped(t) => stop(t),
+        Stage::Open => stop(Trouble::SecondConfig, n),
+        Stage::Closed => stop(Trouble::SecondConfig, n),
+        Stage::Stopped(t, k) => stop(t, k),
     }
 }
 
-fn with_ground(g: Background, stage: Stage, j: Job) -> State
-    ensures { λ r. ⌜ r ≡ withGround g stage j ⌝ }
+fn with_ground(g: Background, n: usize, stage: Stage, j: Job) -> State
+    ensures { λ r. ⌜ r ≡ withGround g n stage j ⌝ }
 {
     match stage {
-        Stage::Start => stop(Trouble::NoConfig),
+        Stage::Start => stop(Trouble::NoConfig, n),
         Stage::Open => State {
             stage: Stage::Closed,
             job: grounded_job(j, g),
         },
-        Stage::Closed => stop(Trouble::LateBackground),
-        Stage::Stopped(t) => stop(t),
+        Stage::Closed => stop(Trouble::LateBackground, n),
+        Stage::Stopped(t, k) => stop(t, k),
     }
 }
 
-fn next_image(key: Key, image: Image, line: usize, j: Job) -> State
-    ensures { λ r. ⌜ r ≡ nextImage key image line j ⌝ }
+fn next_image(key: Key, image: Image, n: usize, j: Job) -> State
+    ensures { λ r. ⌜ r ≡ nextImage key image n j ⌝ }
 {
     if j.count < 256 {
         return State {
             stage: Stage::Closed,
-            job: entered_job(j, key, image, line),
+            job: entered_job(j, key, image, n),
         };
     }
-    stop(Trouble::TooManyImages)
+    stop(Trouble::TooManyImages, n)
 }
 
-fn with_image(key: Key, image: Image, line: usize, stage: Stage, j: Job) -> State
-    ensures { λ r. ⌜ r ≡ withImage key image line stage j ⌝ }
+fn with_image(key: Key, image: Image, n: usize, stage: Stage, j: Job) -> State
+    ensures { λ r. ⌜ r ≡ withImage key image n stage j ⌝ }
 {
     match stage {
-        Stage::Start => stop(Trouble::NoConfig),
-        Stage::Open => next_image(key, image, line, j),
-        Stage::Closed => next_image(key, image, line, j),
-        Stage::Stopped(t) => stop(t),
+        Stage::Start => stop(Trouble::NoConfig, n),
+        Stage::Open => next_image(key, image, n, j),
+        Stage::Closed => next_image(key, image, n, j),
+        Stage::Stopped(t, k) => stop(t, k),
+    }
+}
+
+// The first trouble is kept.
+fn with_trouble(t: Trouble, n: usize, stage: Stage) -> State
+    ensures { λ r. ⌜ r ≡ withTrouble t n stage ⌝ }
+{
+    match stage {
+        Stage::Start => stop(t, n),
+        Stage::Open => stop(t, n),
+        Stage::Closed => stop(t, n),
+        Stage::Stopped(u, k) => stop(u, k),
     }
 }
 
@@ -194,9 +207,9 @@ fn take_line(n: usize, line: Line, s: State) -> State
     match line {
         Line::Empty => s,
         Line::Settings(c) => with_config(c, n, stage),
-        Line::Ground(g) => with_ground(g, stage, j),
+        Line::Ground(g) => with_ground(g, n, stage, j),
         Line::Picture(key, image) => with_image(key, image, n, stage, j),
-        Line::Malformed(t) => stop(t),
+        Line::Malformed(t) => with_trouble(t, n, stage),
     }
 }
 
@@ -206,10 +219,30 @@ fn read_line(n: usize, line: &[u8], s: State) -> State
     take_line(n, lines::line_of(line), s)
 }
 
-fn refuse(t: Trouble, line: usize) -> Parsed
-    ensures { λ r. ⌜ r ≡ refused t line ⌝ }
+// The state after every line.
+fn read_lines(text: &[u8]) -> State
+    ensures { λ r. ⌜ r ≡ after 1 (linesIn (now (text .entry))) (state Start blankJob) ⌝ }
 {
-    let outcome = Outcome::Refused(t, line);
+    let stage = Stage::Start;
+    let mut s = State {
+        stage,
+        job: blank_job(),
+    };
+    let mut n = 1;
+    let mut at = 0;
+    while at <= text.len() {
+        let end = words::mark_from(text, at, 10);
+        s = read_line(n, &text[at..end], s);
+        at = end + 1;
+        n += 1;
+    }
+    s
+}
+
+fn refuse(t: Trouble, n: usize) -> Parsed
+    ensures { λ r. ⌜ r ≡ refused t n ⌝ }
+{
+    let outcome = Outcome::Refused(t, n);
     Parsed {
         outcome,
         job: blank_job(),
@@ -230,31 +263,16 @@ fn end_job(stage: Stage, j: Job) -> Parsed
             outcome: Outcome::Done,
             job: j,
         },
-        Stage::Stopped(t) => refuse(t, 1),
+        Stage::Stopped(t, n) => refuse(t, n),
     }
 }
 
 pub fn read_job(text: &[u8]) -> Parsed
     ensures { λ r. ⌜ r ≡ jobIn (now (text .entry)) ⌝ }
+    ensures { λ r. ⌜ r .job .count ≤ 256 ⌝ }
 {
-    let stage = Stage::Start;
-    let mut s = State {
-        stage,
-        job: blank_job(),
-    };
-    let mut n = 1;
-    let mut at = 0;
-    while at <= text.len() {
-        let end = words::mark_from(text, at, 10);
-        s = read_line(n, &text[at..end], s);
-        let reached = s.stage;
-        if let Stage::Stopped(t) = reached {
-            return refuse(t, n);
-        }
-        at = end + 1;
-        n += 1;
-    }
-    let last = s.stage;
+    let s = read_lines(text);
+    let stage = s.stage;
     let j = s.job;
-    end_job(last, j)
+    end_job(stage, j)
 }

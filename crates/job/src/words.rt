@@ -1,6 +1,6 @@
 // The words of a line: bytes between blanks, before a comment.
 ghost use mathlib.Core.Path.{_≡_};
-ghost use Prim.Native.Nat.{_+_, _≤_};
+ghost use Prim.Native.Nat.{_+_};
 ghost use lib.Dec.{eqb};
 ghost use lib.ListN.{length, drop};
 ghost use Rattle.job.specs.Bytes.{upTo, same, isBlank};
@@ -22,7 +22,6 @@ fn is_blank(b: u8) -> bool
 
 // The place of the first such byte from `at` on, or the end.
 pub fn mark_from(text: &[u8], at: usize, mark: u8) -> usize
-    requires { ⌜ at ≤ length (now text) ⌝ }
     ensures { λ r. ⌜ r ≡ at + length (upTo (λ b. eqb b mark) (drop at (now (text .entry)))) ⌝ }
 {
     let mut i = at;
@@ -37,7 +36,6 @@ pub fn mark_from(text: &[u8], at: usize, mark: u8) -> usize
 
 // The place of the first blank from `at` on, or the end.
 fn blank_from(text: &[u8], at: usize) -> usize
-    requires { ⌜ at ≤ length (now text) ⌝ }
     ensures { λ r. ⌜ r ≡ at + length (upTo isBlank (drop at (now (text .entry)))) ⌝ }
 {
     let mut i = at;

@@ -1,5 +1,5 @@
 -- `config_line` is the configuration, or malformed. Assumes nothing.
-use mathlib.Core.Path.{_≡_, sym, ap, ap₂, _∙_}
+use mathlib.Core.Path.{sym, ap, _∙_}
 use Rattle.job.specs.Lines.{configOf, configLine}
 use Rattle.job.specs.Words.{split}
 use Rattle.job.specs.declared.lines.Line.the-variants.{Settings, Malformed}

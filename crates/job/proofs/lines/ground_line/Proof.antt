@@ -1,6 +1,6 @@
 -- `ground_line` is no background, a colour, or malformed. Assumes nothing.
-use mathlib.Core.Path.{_≡_, sym, ap, ap₂, _∙_}
-use mathlib.Core.Bool.{Bool, cond}
+use mathlib.Core.Path.{sym, ap, _∙_}
+use mathlib.Core.Bool.{cond}
 use Rattle.job.specs.Lines.{colourOk, colourOf, groundLine}
 use Rattle.job.specs.Words.{split}
 use Rattle.paint.specs.declared.background.Background.the-variants.{Clear}

@@ -1,5 +1,5 @@
 -- `image_line` is the key and the image, or malformed. Assumes nothing.
-use mathlib.Core.Path.{_≡_, sym, ap, ap₂, _∙_}
+use mathlib.Core.Path.{sym, _∙_}
 use Rattle.job.specs.Lines.{keyOf, imageOf, imageLine}
 use Rattle.job.specs.Words.{split}
 use Rattle.job.specs.declared.lines.Line.the-variants.{Picture, Malformed}

@@ -1,6 +1,6 @@
 -- `image_ok` joins the tests. Assumes nothing.
 use Prim.Native.Nat.{ℕ}
-use mathlib.Core.Path.{_≡_, sym, ap, ap₂, _∙_}
+use mathlib.Core.Path.{ap}
 use mathlib.Core.List.{[], _∷_}
 use lib.Dec.{eqb}
 use lib.ListN.{length}

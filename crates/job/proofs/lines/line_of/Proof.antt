@@ -1,7 +1,7 @@
 -- `line_of` leaves the comment out. Assumes nothing.
 use Prim.Native.Nat.{_≤_, _-_}
 use native.Mathlib.Omega.{arith}
-use mathlib.Core.Path.{_≡_, sym, ap, ap₂, _∙_}
+use mathlib.Core.Path.{_≡_, _∙_}
 use lib.ListN.{length}
 use Rattle.job.specs.Bytes.{upTo, isHash}
 use Rattle.job.proofs.Pieces.{end-inside}

@@ -1,6 +1,6 @@
 -- `plain_line` goes by the first word. Assumes nothing.
-use Prim.Native.Nat.{ℕ}
-use mathlib.Core.Path.{_≡_, sym, ap, ap₂, _∙_}
+use mathlib.Core.Path.{sym, _∙_}
+use Rattle.job.specs.Bytes.{bytesOf}
 use Rattle.job.specs.Words.{split}
 use Rattle.job.specs.Lines.{configLine, groundLine, imageLine}
 use Rattle.job.specs.declared.lines.Line.the-variants.{Malformed}
@@ -27,6 +27,7 @@ config-line-requires : tie.Need-config-line-requires
 config-line-requires c κs = search needs
 
 returns-2 : tie.Need-returns-2
+unfolding bytesOf
 returns-2 c =
     let s = c .before .before .before .before in
     let n = said-some (split (c .before .before .before .before .before .before .before .args .line .now)) (λ e. s .if1 .left (s .before .word-count .ensures ∙ e)) in
@@ -42,6 +43,7 @@ ground-line-requires : tie.Need-ground-line-requires
 ground-line-requires c κs = search needs
 
 returns-3 : tie.Need-returns-3
+unfolding bytesOf
 returns-3 c =
     let g = c .before .before .before .before in
     let s = g .before .before .before in
@@ -62,6 +64,7 @@ image-line-requires : tie.Need-image-line-requires
 image-line-requires c κs = search needs
 
 returns-4 : tie.Need-returns-4
+unfolding bytesOf
 returns-4 c =
     let i = c .before .before .before .before in
     let g = i .before .before .before in
@@ -75,6 +78,7 @@ returns-4 c =
     ∙ sym n
 
 returns-5 : tie.Need-returns-5
+unfolding bytesOf
 returns-5 c =
     let i = c .before .before .before in
     let g = i .before .before .before in

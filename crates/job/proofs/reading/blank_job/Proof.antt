@@ -1,5 +1,5 @@
 -- `blank_job` is opened with the blank configuration. Assumes nothing.
-use mathlib.Core.Path.{_≡_, sym, ap, _∙_}
+use mathlib.Core.Path.{ap, _∙_}
 use Rattle.records.specs.declared.texture_packer_config.Config.{Config}
 use Rattle.job.specs.Jobs.{openedJob, blankJob}
 use borrow.Author.Needs.{needs}

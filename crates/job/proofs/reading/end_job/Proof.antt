@@ -7,7 +7,7 @@ use borrow.Author.Needs.{needs}
 use Rattle.job.proofs.reading.end_job.Statement.{statement}
 use Rattle.job.proofs.reading.end_job.Tie as tie
 
-is-stopped : (c : tie.After-stage) → c .before .before .args .stage ≡ Stopped (c .stage .given .0 .0)
+is-stopped : (c : tie.After-stage) → c .before .before .args .stage ≡ Stopped (c .stage .given .0 .0) (c .stage .given .0 .1 .0)
 is-stopped c = cc
 
 enum-told : tie.Need-enum-told

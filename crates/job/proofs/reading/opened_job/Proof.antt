@@ -1,6 +1,6 @@
 -- `opened_job` has the blank entry in each place. Assumes nothing.
 use Prim.Native.Nat.{ℕ}
-use mathlib.Core.Path.{_≡_, sym, ap, _∙_}
+use mathlib.Core.Path.{ap}
 use lib.ListN.{replicate}
 use Rattle.records.specs.declared.texture_packer_config.Config.{Config}
 use Rattle.paint.specs.declared.background.Background.the-variants.{Clear}

@@ -1,5 +1,5 @@
 -- `read_line` takes what the line says. Assumes nothing.
-use mathlib.Core.Path.{_≡_, sym, ap, _∙_}
+use mathlib.Core.Path.{ap, _∙_}
 use Rattle.job.specs.Jobs.{taken}
 use Rattle.job.specs.declared.lines.Line.{Line}
 use borrow.Author.Needs.{needs}

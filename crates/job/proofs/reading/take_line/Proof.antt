@@ -43,8 +43,8 @@ with-image-requires c κs = search needs
 enum-known-line-4 : tie.Need-enum-known-line-4
 enum-known-line-4 c = search needs
 
-stop-requires : tie.Need-stop-requires
-stop-requires c κs = search needs
+with-trouble-requires : tie.Need-with-trouble-requires
+with-trouble-requires c κs = search needs
 
 returns : tie.Need-returns
 unfolding taken
@@ -64,7 +64,7 @@ returns-4 c = c .with-image .ensures ∙ sym (ap (λ (l : Line). taken (c .befor
 
 returns-5 : tie.Need-returns-5
 unfolding taken
-returns-5 c = c .stop .ensures ∙ sym (ap (λ (l : Line). taken (c .before .before .before .before .before .args .n) l (c .before .before .before .before .before .args .s)) (is-malformed (c .before .before)))
+returns-5 c = c .with-trouble .ensures ∙ sym (ap (λ (l : Line). taken (c .before .before .before .before .before .args .n) l (c .before .before .before .before .before .args .s)) (is-malformed (c .before .before)))
 
 pub take-line-spec : {M : Type 1} → statement M
 take-line-spec =
@@ -78,7 +78,7 @@ take-line-spec =
     enum-known-line-3
     with-image-requires
     enum-known-line-4
-    stop-requires
+    with-trouble-requires
     returns
     returns-2
     returns-3

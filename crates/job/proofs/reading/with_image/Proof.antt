@@ -7,7 +7,7 @@ use borrow.Author.Needs.{needs}
 use Rattle.job.proofs.reading.with_image.Statement.{statement}
 use Rattle.job.proofs.reading.with_image.Tie as tie
 
-is-stopped : (c : tie.After-stage) → c .before .before .args .stage ≡ Stopped (c .stage .given .0 .0)
+is-stopped : (c : tie.After-stage) → c .before .before .args .stage ≡ Stopped (c .stage .given .0 .0) (c .stage .given .0 .1 .0)
 is-stopped c = cc
 
 enum-told : tie.Need-enum-told
@@ -36,19 +36,19 @@ stop-requires-2 c κs = search needs
 
 returns : tie.Need-returns
 unfolding withImage
-returns c = c .stop .ensures ∙ sym (ap (λ (g : Stage). withImage (c .before .before .before .args .key) (c .before .before .before .args .image) (c .before .before .before .args .line) g (c .before .before .before .args .j)) (c .before .enum-told .given .1))
+returns c = c .stop .ensures ∙ sym (ap (λ (g : Stage). withImage (c .before .before .before .args .key) (c .before .before .before .args .image) (c .before .before .before .args .n) g (c .before .before .before .args .j)) (c .before .enum-told .given .1))
 
 returns-2 : tie.Need-returns-2
 unfolding withImage
-returns-2 c = c .next-image .ensures ∙ sym (ap (λ (g : Stage). withImage (c .before .before .before .args .key) (c .before .before .before .args .image) (c .before .before .before .args .line) g (c .before .before .before .args .j)) (c .before .enum-told2 .given .1))
+returns-2 c = c .next-image .ensures ∙ sym (ap (λ (g : Stage). withImage (c .before .before .before .args .key) (c .before .before .before .args .image) (c .before .before .before .args .n) g (c .before .before .before .args .j)) (c .before .enum-told2 .given .1))
 
 returns-3 : tie.Need-returns-3
 unfolding withImage
-returns-3 c = c .next-image2 .ensures ∙ sym (ap (λ (g : Stage). withImage (c .before .before .before .args .key) (c .before .before .before .args .image) (c .before .before .before .args .line) g (c .before .before .before .args .j)) (c .before .enum-told3 .given .1))
+returns-3 c = c .next-image2 .ensures ∙ sym (ap (λ (g : Stage). withImage (c .before .before .before .args .key) (c .before .before .before .args .image) (c .before .before .before .args .n) g (c .before .before .before .args .j)) (c .before .enum-told3 .given .1))
 
 returns-4 : tie.Need-returns-4
 unfolding withImage
-returns-4 c = c .stop2 .ensures ∙ sym (ap (λ (g : Stage). withImage (c .before .before .before .before .args .key) (c .before .before .before .before .args .image) (c .before .before .before .before .args .line) g (c .before .before .before .before .args .j)) (is-stopped (c .before .before)))
+returns-4 c = c .stop2 .ensures ∙ sym (ap (λ (g : Stage). withImage (c .before .before .before .before .args .key) (c .before .before .before .before .args .image) (c .before .before .before .before .args .n) g (c .before .before .before .before .args .j)) (is-stopped (c .before .before)))
 
 pub with-image-spec : {M : Type 1} → statement M
 with-image-spec =

@@ -1,5 +1,5 @@
 -- `is_number` tells whether there is a number. Assumes nothing.
-use mathlib.Core.Path.{_≡_, sym, ap, ap₂, _∙_}
+use mathlib.Core.Path.{sym, ap, _∙_}
 use Rattle.job.specs.Words.{given, isNumber}
 use borrow.Author.Needs.{needs}
 use Rattle.job.proofs.values.is_number.Statement.{statement}

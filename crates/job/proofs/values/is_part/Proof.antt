@@ -1,7 +1,7 @@
 -- `is_part` tells whether there is a number to 255. Assumes nothing.
-use mathlib.Core.Path.{_≡_, sym, ap, ap₂, _∙_}
+use mathlib.Core.Path.{_≡_, sym, ap, _∙_}
 use Rattle.job.specs.Words.{small, isPart}
-use Rattle.job.specs.declared.numbers.Number.the-variants.{Is, Not}
+use Rattle.job.specs.declared.numbers.Number.the-variants.{Is}
 use borrow.Author.Needs.{needs}
 use Rattle.job.proofs.values.is_part.Statement.{statement}
 use Rattle.job.proofs.values.is_part.Tie as tie

@@ -1,6 +1,7 @@
 -- `is_threshold` compares with the word, or reads a number. Assumes nothing.
 use mathlib.Core.Bool.{_||_}
-use mathlib.Core.Path.{_≡_, sym, ap, ap₂, _∙_}
+use mathlib.Core.Path.{ap₂}
+use Rattle.job.specs.Bytes.{bytesOf}
 use Rattle.job.specs.Words.{isThreshold}
 use borrow.Author.Needs.{needs}
 use Rattle.job.proofs.values.is_threshold.Statement.{statement}
@@ -16,7 +17,7 @@ is-part-requires : tie.Need-is-part-requires
 is-part-requires c κs = search needs
 
 returns : tie.Need-returns
-unfolding isThreshold
+unfolding isThreshold bytesOf
 returns c = ap₂ _||_ (c .before .is-word .ensures) (c .is-part .ensures)
 
 pub is-threshold-spec : {M : Type 1} → statement M

@@ -1,6 +1,6 @@
 -- `is_word` compares the bytes that lie at the word's place. Assumes nothing.
 use Prim.Native.Nat.{ℕ}
-use mathlib.Core.Path.{_≡_, sym, ap, ap₂, _∙_}
+use mathlib.Core.Path.{ap, _∙_}
 use mathlib.Core.List.{List}
 use Rattle.job.specs.Bytes.{same}
 use borrow.Author.Needs.{needs}

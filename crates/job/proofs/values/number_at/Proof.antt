@@ -1,5 +1,5 @@
 -- `number_at` reads the bytes that lie at the word's place. Assumes nothing.
-use mathlib.Core.Path.{_≡_, sym, ap, ap₂, _∙_}
+use mathlib.Core.Path.{ap, _∙_}
 use Rattle.job.specs.Numbers.{numberIn}
 use borrow.Author.Needs.{needs}
 use Rattle.job.proofs.values.number_at.Statement.{statement}

@@ -1,7 +1,7 @@
 -- `to_number` is the number, or 0. Assumes nothing.
-use mathlib.Core.Path.{_≡_, sym, ap, ap₂, _∙_}
+use mathlib.Core.Path.{_≡_, sym, ap, _∙_}
 use Rattle.job.specs.Words.{valueOf, toNumber}
-use Rattle.job.specs.declared.numbers.Number.the-variants.{Is, Not}
+use Rattle.job.specs.declared.numbers.Number.the-variants.{Is}
 use borrow.Author.Needs.{needs}
 use Rattle.job.proofs.values.to_number.Statement.{statement}
 use Rattle.job.proofs.values.to_number.Tie as tie

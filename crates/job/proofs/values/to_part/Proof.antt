@@ -1,11 +1,11 @@
 -- `to_part` is the number to 255, or 0. Assumes nothing.
 use Prim.Native.Nat.{ℕ}
 use mathlib.Core.Bool.{Bool, cond}
-use mathlib.Core.Path.{_≡_, sym, ap, ap₂, _∙_}
+use mathlib.Core.Path.{_≡_, sym, ap, _∙_}
 use borrow.Author.Tests.{le-leb, lt-leb}
 use Rattle.job.specs.Words.{valueOf, small, toNumber, isPart, toPart}
 use Rattle.job.specs.declared.numbers.Number.{Number}
-use Rattle.job.specs.declared.numbers.Number.the-variants.{Is, Not}
+use Rattle.job.specs.declared.numbers.Number.the-variants.{Is}
 use borrow.Author.Needs.{needs}
 use Rattle.job.proofs.values.to_part.Statement.{statement}
 use Rattle.job.proofs.values.to_part.Tie as tie

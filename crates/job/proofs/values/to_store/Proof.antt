@@ -1,5 +1,6 @@
 -- `to_store` is the store that the word names. Assumes nothing.
-use mathlib.Core.Path.{_≡_, sym, ap, ap₂, _∙_}
+use mathlib.Core.Path.{sym, _∙_}
+use Rattle.job.specs.Bytes.{bytesOf}
 use Rattle.job.specs.Words.{toStore}
 use Rattle.art.specs.declared.memory_rgba8_texture.Store.the-variants.{Symbols, Wording}
 use Rattle.job.proofs.Picks.{picked, passed}
@@ -14,11 +15,11 @@ is-word-requires : tie.Need-is-word-requires
 is-word-requires c κs = search needs
 
 returns : tie.Need-returns
-unfolding toStore
+unfolding toStore bytesOf
 returns c = picked Wording (sym (c .before .is-word .ensures) ∙ c .if1 .taken)
 
 returns-2 : tie.Need-returns-2
-unfolding toStore
+unfolding toStore bytesOf
 returns-2 c = passed Symbols (sym (c .before .is-word .ensures) ∙ c .if1 .left)
 
 pub to-store-spec : {M : Type 1} → statement M

@@ -1,5 +1,5 @@
 -- `to_switch` is on where the word is. Assumes nothing.
-use mathlib.Core.Path.{_≡_, sym, ap, ap₂, _∙_}
+use Rattle.job.specs.Bytes.{bytesOf}
 use Rattle.job.specs.Words.{toSwitch}
 use borrow.Author.Needs.{needs}
 use Rattle.job.proofs.values.to_switch.Statement.{statement}
@@ -12,7 +12,7 @@ is-word-requires : tie.Need-is-word-requires
 is-word-requires c κs = search needs
 
 returns : tie.Need-returns
-unfolding toSwitch
+unfolding toSwitch bytesOf
 returns c = c .is-word .ensures
 
 pub to-switch-spec : {M : Type 1} → statement M

@@ -1,5 +1,6 @@
 -- `to_threshold` is unset where the word is none. Assumes nothing.
-use mathlib.Core.Path.{_≡_, sym, ap, ap₂, _∙_}
+use mathlib.Core.Path.{sym, ap, _∙_}
+use Rattle.job.specs.Bytes.{bytesOf}
 use Rattle.job.specs.Words.{word, split, toPart, toThreshold}
 use Rattle.paint.specs.declared.background.Threshold.the-variants.{Unset, AtMost}
 use Rattle.job.proofs.Picks.{picked, passed}
@@ -14,14 +15,14 @@ is-word-requires : tie.Need-is-word-requires
 is-word-requires c κs = search needs
 
 returns : tie.Need-returns
-unfolding toThreshold
+unfolding toThreshold bytesOf
 returns c = picked (AtMost (toPart (word (c .before .before .before .before .args .n) (split (c .before .before .before .before .args .line .now))))) (sym (c .before .is-word .ensures) ∙ c .if1 .taken)
 
 to-part-requires : tie.Need-to-part-requires
 to-part-requires c κs = search needs
 
 returns-2 : tie.Need-returns-2
-unfolding toThreshold
+unfolding toThreshold bytesOf
 returns-2 c = ap AtMost (c .to-part .ensures) ∙ passed Unset (sym (c .before .before .is-word .ensures) ∙ c .before .if1 .left)
 
 pub to-threshold-spec : {M : Type 1} → statement M

@@ -1,6 +1,5 @@
 -- `blank_from` goes on where there is no blank. Assumes nothing.
-use Prim.Native.Nat.{_≤_, _-_}
-use native.Mathlib.Omega.{arith}
+use Prim.Native.Nat.{_-_}
 use mathlib.Core.Path.{_≡_, refl, sym, _∙_}
 use lib.ListN.{length}
 use borrow.Author.Needs.{needs}
@@ -10,13 +9,13 @@ use Rattle.job.proofs.words.blank_from.Statement.{statement}
 use Rattle.job.proofs.words.blank_from.Tie as tie
 
 abbrev Inv-loop : tie.InvT-loop
-Inv-loop text at i₀ i = (i ≤ length text) × (endFrom isBlank text at ≡ endFrom isBlank text i)
+Inv-loop text at i₀ i = endFrom isBlank text at ≡ endFrom isBlank text i
 
 abbrev μ-loop : tie.MeasureT-loop
 μ-loop text at i₀ i = length text - i
 
 loop-holds : tie.Need-loop-holds Inv-loop μ-loop
-loop-holds c = (search needs, refl)
+loop-holds c = refl
 
 shared-slice-read-is-blank : tie.Need-shared-slice-read-is-blank Inv-loop μ-loop
 shared-slice-read-is-blank c = search needs
@@ -28,7 +27,7 @@ returns : tie.Need-returns Inv-loop μ-loop
 returns c =
     let l = c .before .before .before .before .loop in
     let text = c .before .before .before .before .before .before .args .text .now in
-    sym (l .inv .1 ∙ end-here isBlank text (l .i) (c .before .before .before .loop-test .taken) (sym (c .before .is-blank .ensures) ∙ c .if1 .taken))
+    sym (l .inv ∙ end-here isBlank text (l .i) (c .before .before .before .loop-test .taken) (sym (c .before .is-blank .ensures) ∙ c .if1 .taken))
 
 add-i : tie.Need-add-i Inv-loop μ-loop
 add-i c = search needs
@@ -40,13 +39,13 @@ loop-again : tie.Need-loop-again Inv-loop μ-loop
 loop-again c =
     let l = c .before .before .before .before .loop in
     let text = c .before .before .before .before .before .before .args .text .now in
-    (search needs, l .inv .1 ∙ end-later isBlank text (l .i) (c .before .before .before .loop-test .taken) (sym (c .before .is-blank .ensures) ∙ c .if1 .left))
+    l .inv ∙ end-later isBlank text (l .i) (c .before .before .before .loop-test .taken) (sym (c .before .is-blank .ensures) ∙ c .if1 .left)
 
 returns-2 : tie.Need-returns-2 Inv-loop μ-loop
 returns-2 c =
     let l = c .before .loop in
     let text = c .before .before .before .args .text .now in
-    sym (l .inv .1 ∙ end-past isBlank text (l .i) (c .loop-test .left))
+    sym (l .inv ∙ end-past isBlank text (l .i) (c .loop-test .left))
 
 pub blank-from-spec : {M : Type 1} → statement M
 blank-from-spec =

@@ -1,6 +1,5 @@
 -- `mark_from` goes on where the mark is not. Assumes nothing.
-use Prim.Native.Nat.{ℕ, _≤_, _-_, _+_}
-use native.Mathlib.Omega.{arith}
+use Prim.Native.Nat.{ℕ, _-_}
 use mathlib.Core.Path.{_≡_, refl, sym, _∙_}
 use mathlib.Core.Bool.{Bool}
 use lib.Dec.{eqb}
@@ -15,13 +14,13 @@ abbrev is : ℕ → ℕ → Bool
 is mark b = eqb b mark
 
 abbrev Inv-loop : tie.InvT-loop
-Inv-loop text at mark i₀ i = (i ≤ length text) × (endFrom (is mark) text at ≡ endFrom (is mark) text i)
+Inv-loop text at mark i₀ i = endFrom (is mark) text at ≡ endFrom (is mark) text i
 
 abbrev μ-loop : tie.MeasureT-loop
 μ-loop text at mark i₀ i = length text - i
 
 loop-holds : tie.Need-loop-holds Inv-loop μ-loop
-loop-holds c = (search needs, refl)
+loop-holds c = refl
 
 shared-slice-read-if1 : tie.Need-shared-slice-read-if1 Inv-loop μ-loop
 shared-slice-read-if1 c = search needs
@@ -30,7 +29,7 @@ returns : tie.Need-returns Inv-loop μ-loop
 returns c =
     let l = c .before .before .before .loop in
     let a = c .before .before .before .before .args in
-    sym (l .inv .1 ∙ end-here (is (a .mark)) (a .text .now) (l .i) (c .before .before .loop-test .taken) (eq-eqb _ _ (c .if1 .taken)))
+    sym (l .inv ∙ end-here (is (a .mark)) (a .text .now) (l .i) (c .before .before .loop-test .taken) (eq-eqb _ _ (c .if1 .taken)))
 
 add-i : tie.Need-add-i Inv-loop μ-loop
 add-i c = search needs
@@ -42,13 +41,13 @@ loop-again : tie.Need-loop-again Inv-loop μ-loop
 loop-again c =
     let l = c .before .before .before .loop in
     let a = c .before .before .before .before .args in
-    (omega arith, l .inv .1 ∙ end-later (is (a .mark)) (a .text .now) (l .i) (c .before .before .loop-test .taken) (ne-eqb _ _ (c .if1 .left)))
+    l .inv ∙ end-later (is (a .mark)) (a .text .now) (l .i) (c .before .before .loop-test .taken) (ne-eqb _ _ (c .if1 .left))
 
 returns-2 : tie.Need-returns-2 Inv-loop μ-loop
 returns-2 c =
     let l = c .before .loop in
     let a = c .before .before .args in
-    sym (l .inv .1 ∙ end-past (is (a .mark)) (a .text .now) (l .i) (c .loop-test .left))
+    sym (l .inv ∙ end-past (is (a .mark)) (a .text .now) (l .i) (c .loop-test .left))
 
 pub mark-from-spec : {M : Type 1} → statement M
 mark-from-spec =
