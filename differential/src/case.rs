@@ -64,11 +64,19 @@ pub struct Background {
     pub discard: bool,
 }
 
-/// What a look goes through; `seed` picks pixels and rows where a page is too large for all.
+/// How much of a page a look goes through: every row, or only a few, in cases that have to be kept small.
+#[derive(Clone, Copy, Debug, PartialEq)]
+pub enum Detail {
+    Few,
+    Every,
+}
+
+/// What a look goes through; `seed` picks pixels and rows where not all are asked.
 #[derive(Clone, Copy, Debug, PartialEq)]
 pub struct Look {
     pub background: Background,
     pub seed: u64,
+    pub detail: Detail,
 }
 
 #[derive(Clone, Copy, Debug, PartialEq)]

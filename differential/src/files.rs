@@ -26,7 +26,7 @@ pub fn write_cases(folder: &Path, options: &Options) -> io::Result<()> {
         if kind as u64 != written % SMALL_KINDS {
             continue;
         }
-        let script = scripted(&case, Reading::Right).map_err(|d| io::Error::other(d.text))?;
+        let script = scripted(&case, Reading::Right, &mut |_| {}).map_err(|d| io::Error::other(d.text))?;
         let parts = [&script.bytes, &*case.symbols, &*case.wording, &script.expected];
         if parts.iter().any(|bytes| bytes.len() > options.largest) {
             continue;

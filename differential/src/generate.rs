@@ -1,6 +1,6 @@
 //! The cases: random ones of several kinds, each from a seed and a number, and the exhaustive small ones.
 
-use crate::case::{Background, Case, Config, Image, Look, Step};
+use crate::case::{Background, Case, Config, Detail, Image, Look, Step};
 use crate::random::Random;
 use std::rc::Rc;
 
@@ -183,7 +183,7 @@ fn between(shape: &Shape, steps: &mut Vec<Step>, random: &mut Random) {
 fn look(random: &mut Random) -> Step {
     let threshold = random.pick(&[None, Some(0), Some(1), Some(127), Some(254), Some(255), Some(2), Some(3)]);
     let color = [random.byte(), random.byte(), random.byte(), random.byte()];
-    Step::Look(Look { background: Background { color, threshold, discard: random.once_in(2) }, seed: random.next() })
+    Step::Look(Look { background: Background { color, threshold, discard: random.once_in(2) }, seed: random.next(), detail: Detail::Every })
 }
 
 /// A side; most are no longer than the maxima leave room for.
@@ -283,7 +283,8 @@ pub fn exhaustive_case(number: u64, stores: &(Rc<Vec<u8>>, Rc<Vec<u8>>)) -> Case
             Step::Offer(Image { key, wording: key == 1, offset: 64 * (key / 2), w, h })
         })
         .collect();
-    steps.push(Step::Look(Look { background: Background { color: [9, 9, 9, 9], threshold: None, discard: false }, seed: number }));
+    let background = Background { color: [9, 9, 9, 9], threshold: None, discard: false };
+    steps.push(Step::Look(Look { background, seed: number, detail: Detail::Every }));
     Case { config, symbols: stores.0.clone(), wording: stores.1.clone(), steps }
 }
 

@@ -12,6 +12,7 @@ mod options;
 mod packer;
 mod random;
 mod script;
+mod shown;
 mod shrink;
 mod sketch;
 mod wrong;

@@ -13,12 +13,23 @@ pub struct Options {
     pub largest: usize,
 }
 
-const USAGE: &str = "run [--cases N] [--first N] [--seed S] [--no-exhaustive] [--show-that-it-sees [--verbose]] [--bench] [--write DIR [--count N] [--largest BYTES]]";
+const USAGE: &str =
+    "run [--cases N] [--first N] [--seed S] [--no-exhaustive] [--show-that-it-sees [--verbose]] [--bench] [--write DIR [--count N] [--largest BYTES]]";
 
 impl Options {
     pub fn read(words: impl Iterator<Item = String>) -> Result<Options, String> {
-        let mut o =
-            Options { cases: 20_000, first: 0, seed: 1, exhaustive: true, show_that_it_sees: false, verbose: false, bench: false, write: None, count: 100, largest: 8192 };
+        let mut o = Options {
+            cases: 20_000,
+            first: 0,
+            seed: 1,
+            exhaustive: true,
+            show_that_it_sees: false,
+            verbose: false,
+            bench: false,
+            write: None,
+            count: 100,
+            largest: 8192,
+        };
         let mut words = words;
         while let Some(word) = words.next() {
             if word == "--write" {
