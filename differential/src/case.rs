@@ -108,6 +108,16 @@ impl Case {
         Art { store: self.store(image).clone(), offset: image.offset as usize, w: image.w, h: image.h }
     }
 
+    /// The same case with every look of this detail.
+    pub fn looked_at(mut self, detail: Detail) -> Case {
+        for step in &mut self.steps {
+            if let Step::Look(look) = step {
+                look.detail = detail;
+            }
+        }
+        self
+    }
+
     pub fn inside_stores(&self) -> bool {
         self.steps.iter().all(|s| match s {
             Step::Offer(i) => u64::from(i.offset) + 4 * u64::from(i.w) * u64::from(i.h) <= self.store(i).len() as u64,

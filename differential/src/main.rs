@@ -2,6 +2,7 @@
 
 mod bench;
 mod case;
+mod compact;
 mod compare;
 mod expect;
 mod files;
@@ -9,6 +10,7 @@ mod formulas;
 mod generate;
 mod library;
 mod options;
+mod ours;
 mod packer;
 mod random;
 mod script;

@@ -61,7 +61,7 @@ impl Run<'_, '_> {
 
     fn some_points(&self, page: u32, (w, h): (u32, u32), detail: Detail, random: &mut Random) -> Vec<(u32, u32)> {
         let past = self.case.config.extrusion + 1;
-        let (anywhere, frames, each) = if detail == Detail::Few { (3, 8, 2) } else { (64, 24, 8) };
+        let (anywhere, frames, each) = if detail == Detail::Few { (3, 4, 2) } else { (64, 24, 8) };
         let mut points: Vec<_> = (0..anywhere).map(|_| (random.within(0, w + past), random.within(0, h + past))).collect();
         for s in self.standing.iter().filter(|s| s.page == page).take(frames) {
             let f = s.frame.frame;
@@ -110,13 +110,18 @@ impl Run<'_, '_> {
         let first = self.row_of_interest(page, h, random);
         let rows = if w > 64 { 1 } else { random.within(1, (h - first).min(3)) };
         // a page of 4096 columns has rows of 16384 bytes
-        if w > 256 && !random.once_in(12) {
+        if w > 256 && !random.once_in(16) {
             return;
         }
         let shown = Rows::of(&self.window(page, (w, h), first, rows));
         let bytes = self.shown_by(&shown, background);
         self.script.rows(page, background, first, rows, &bytes);
-        if w <= 64 {
+        if w > 64 {
+            return;
+        }
+        if random.once_in(2) {
+            self.script.check(page, background, first, rows, &bytes, &[0]);
+        } else {
             let changed = other(&bytes, random.within(0, bytes.len() as u32 - 1) as usize);
             self.script.check(page, background, first, rows, &changed, &first_other(&changed, &bytes, w, first));
         }
