@@ -154,8 +154,16 @@ fn main() {
             std::process::exit(2);
         }
     };
+    if let Some(words) = &options.trims {
+        return bench::alone(words);
+    }
     if options.bench {
         bench::all();
+    }
+    if options.instructions {
+        bench::instructions();
+    }
+    if options.bench || options.instructions {
         return;
     }
     // a panic of the crate is reported as a difference

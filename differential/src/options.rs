@@ -8,13 +8,15 @@ pub struct Options {
     pub show_that_it_sees: bool,
     pub verbose: bool,
     pub bench: bool,
+    pub instructions: bool,
+    pub trims: Option<String>,
     pub write: Option<String>,
     pub count: u64,
     pub largest: usize,
 }
 
 const USAGE: &str =
-    "run [--cases N] [--first N] [--seed S] [--no-exhaustive] [--show-that-it-sees [--verbose]] [--bench] [--write DIR [--count N] [--largest BYTES]]";
+    "run [--cases N] [--first N] [--seed S] [--no-exhaustive] [--show-that-it-sees [--verbose]] [--bench] [--instructions] [--write DIR [--count N] [--largest BYTES]]";
 
 impl Options {
     pub fn read(words: impl Iterator<Item = String>) -> Result<Options, String> {
@@ -26,6 +28,8 @@ impl Options {
             show_that_it_sees: false,
             verbose: false,
             bench: false,
+            instructions: false,
+            trims: None,
             write: None,
             count: 100,
             largest: 8192,
@@ -34,6 +38,11 @@ impl Options {
         while let Some(word) = words.next() {
             if word == "--write" {
                 o.write = Some(words.next().ok_or(format!("{word} takes a folder\n{USAGE}"))?);
+                continue;
+            }
+            // one side's trimming alone, which `--instructions` starts
+            if word == "--trims" {
+                o.trims = words.next();
                 continue;
             }
             let mut number = || words.next().and_then(|n| n.parse::<u64>().ok()).ok_or(format!("{word} takes a number\n{USAGE}"));
@@ -47,6 +56,7 @@ impl Options {
                 "--show-that-it-sees" => o.show_that_it_sees = true,
                 "--verbose" => o.verbose = true,
                 "--bench" => o.bench = true,
+                "--instructions" => o.instructions = true,
                 _ => return Err(format!("no option {word}\n{USAGE}")),
             }
         }
