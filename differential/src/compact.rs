@@ -17,9 +17,10 @@ struct Store {
 pub fn vast_case(seed: u64, number: u64) -> Case {
     let mut random = Random::new(seed, number);
     let config = vast_config(&mut random);
-    let lengths = [24, 24, 40, 40, 40, 60, 60, 60, 60, 100, 100, 100, 128, 128, 200, 300, 400, 2048];
-    let stores = [store(random.pick(&lengths), &mut random), store(random.pick(&lengths), &mut random)];
-    let images = if random.once_in(24) { 256 } else { random.within(3, 24) };
+    let lengths = [100, 200, 300, 400, 500, 700, 1000];
+    let first = if random.once_in(24) { 2048 } else { random.pick(&lengths) };
+    let stores = [store(first, &mut random), store(random.pick(&[24, 24, 60, 60, 100]), &mut random)];
+    let images = if random.once_in(24) { 256 } else { random.within(4, 30) };
     filled(config, stores, images, 2048, &mut random)
 }
 
@@ -40,7 +41,8 @@ pub fn paged_case(seed: u64, number: u64) -> Case {
 
 /// Images no longer than `side`, some of them withdrawn, and one or two looks.
 fn filled(config: Config, stores: [Store; 2], images: u32, side: u32, random: &mut Random) -> Case {
-    let sizes: Vec<(u32, u32)> = (0..random.within(2, 5)).map(|_| size(&stores, side, random)).collect();
+    let along = if config.width.max(config.height) < 1024 { None } else { Some(config.width > config.height) };
+    let sizes: Vec<(u32, u32)> = (0..random.within(2, 5)).map(|_| size(&stores, side, along, random)).collect();
     let mut steps = Vec::new();
     for key in 0..images {
         steps.push(offer(key, &stores, &sizes, random));
@@ -56,18 +58,19 @@ fn filled(config: Config, stores: [Store; 2], images: u32, side: u32, random: &m
     Case { config, symbols, wording, steps }.looked_at(Detail::Few)
 }
 
-/// One side is long; the other is long too, or short, so that pages grow tall or wide.
+/// One side is long; the other is long too, or has room for a few images beside each other, so that pages grow tall or wide.
 fn vast_config(random: &mut Random) -> Config {
-    let long = |random: &mut Random| if random.once_in(2) { 4096 } else { random.within(1024, 4096) };
-    let any = |random: &mut Random| if random.once_in(2) { long(random) } else { random.within(40, 400) };
-    let (one, other) = (long(random), any(random));
-    let mut c = if random.once_in(3) { Config::plain(one, other) } else { Config::plain(other, one) };
+    let mut c = Config::plain(0, 0);
     switches(&mut c, random);
     limits(&mut c, random);
-    c.padding = if random.once_in(2) { random.within(0, 64) } else { random.within(0, 3) };
+    c.padding = if !random.once_in(3) { random.within(0, 64) } else { random.within(0, 3) };
     c.border = if random.once_in(2) { random.within(0, 64) } else { random.within(0, 3) };
     let most = if random.once_in(8) { 16 } else { (c.border + c.padding).min(16) };
     c.extrusion = random.within(0, most);
+    let long = |random: &mut Random| if random.once_in(2) { 4096 } else { random.within(1024, 4096) };
+    let few = c.padding + 2 * c.extrusion + 2;
+    let (one, other) = (long(random), if random.once_in(3) { long(random) } else { random.within(few, 3 * few) });
+    (c.width, c.height) = if random.once_in(2) { (one, other) } else { (other, one) };
     c
 }
 
@@ -89,17 +92,23 @@ fn store(pixels: u32, random: &mut Random) -> Store {
     Store { bytes, lead, pixels }
 }
 
-/// A size that lies in one of the stores, of no longer side than this; half of them are as long as the store allows.
-fn size(stores: &[Store; 2], side: u32, random: &mut Random) -> (u32, u32) {
-    let area = random.pick(&[stores[0].pixels, stores[1].pixels]);
-    let most = if random.once_in(2) { 2 } else { area / 4 };
+/// A size that lies in one of the stores, of no longer side than this; half of them are as long as the store allows. On a vast canvas most lie along its
+/// longer side, so that a few reach far.
+fn size(stores: &[Store; 2], side: u32, wide: Option<bool>, random: &mut Random) -> (u32, u32) {
+    let first = wide.is_some() && !random.once_in(4);
+    let area = if first { stores[0].pixels } else { random.pick(&[stores[0].pixels, stores[1].pixels]) };
+    let most = if first || random.once_in(2) { 2 } else { area / 4 };
     let thin = random.within(1, most.min(side));
     let longest = (area / thin).min(side);
-    let other = if random.once_in(2) { longest } else { random.within(1, longest) };
-    if random.once_in(2) {
-        (thin, other)
-    } else {
+    let other = if first || random.once_in(2) { longest } else { random.within(1, longest) };
+    let across = match wide {
+        Some(wide) if first => wide,
+        _ => random.once_in(2),
+    };
+    if across {
         (other, thin)
+    } else {
+        (thin, other)
     }
 }
 

@@ -38,8 +38,8 @@ enum Kind {
 }
 
 /// A case with several pages may be so many times as long as another, and so may one on a vast canvas.
-const PAGED_TIMES: usize = 3;
-const VAST_TIMES: usize = 14;
+const PAGED_TIMES: usize = 2;
+const VAST_TIMES: usize = 12;
 /// No part may be longer: the buffers of `replay`.
 const LONGEST_PART: usize = 65_536;
 

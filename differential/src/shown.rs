@@ -110,7 +110,7 @@ impl Run<'_, '_> {
         let first = self.row_of_interest(page, h, random);
         let rows = if w > 64 { 1 } else { random.within(1, (h - first).min(3)) };
         // a page of 4096 columns has rows of 16384 bytes
-        if w > 256 && !random.once_in(16) {
+        if w > 256 && !random.once_in(10) {
             return;
         }
         let shown = Rows::of(&self.window(page, (w, h), first, rows));

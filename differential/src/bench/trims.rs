@@ -136,7 +136,7 @@ pub fn instructions() {
             let offers = f64::from(size.images) * effort(*alpha, size).0 as f64;
             let of = |side: u32| (counted(&format!("{side},{art},{at},1")) - counted(&format!("{side},{art},{at},0"))) / offers;
             let (ours, theirs) = (of(0), of(1));
-            println!("| {name} | {} | {ours:.0} | {theirs:.0} | {:.2} |", size.name, theirs / ours);
+            println!("| {name} | {} | {ours:.1} | {theirs:.1} | {:.2} |", size.name, theirs / ours);
         }
     }
 }
