@@ -1,7 +1,7 @@
 //! Offers, and the faithful test beside a plain replay.
 
 use super::icons::{config, Icons};
-use super::timing::{in_turns, micros, Calls};
+use super::timing::{least_of, micros, Calls, TURNS};
 use crate::case::{Art, Config};
 use std::hint::black_box;
 use std::time::Instant;
@@ -23,11 +23,7 @@ pub fn offers(side: u32, icons: &Icons, name: &str) {
     let c = config(side);
     let all = icons.images.len();
     let every = Calls::offering(&c, &icons.images);
-    let [ours, theirs] = in_turns([&mut || every.time(&icons.store, &mut Vec::new()), &mut || {
-        let start = Instant::now();
-        black_box(packed(&c, icons, all).get_pages().len());
-        micros(start)
-    }]);
+    let [ours, theirs] = least_of(TURNS, [&mut || every.time(&icons.store, &mut Vec::new()), &mut || once(|| packed(&c, icons, all).get_pages().len())]);
     println!("| 256 offers one by one | {name} | {side} | {ours:.0} | {theirs:.1} | {:.2} |", theirs / ours);
 
     // with 255 standing, an offer and its withdrawal again and again: half of what is added is one of the two
@@ -37,13 +33,16 @@ pub fn offers(side: u32, icons: &Icons, name: &str) {
         again.offer(&icons.images[all - 1]);
         again.push(&[3], 16);
     }
-    let mut answers = Vec::new();
-    let [ours, theirs] = in_turns([&mut || (again.time(&icons.store, &mut answers) - most.time(&icons.store, &mut Vec::new())) / 40.0, &mut || {
-        let mut packer = packed(&c, icons, all - 1);
-        let start = Instant::now();
-        let _ = black_box(packer.pack_ref(icons.images.len() as u32, &icons.arts[all - 1]));
-        micros(start)
-    }]);
+    let [longer, shorter, theirs] = least_of(
+        TURNS,
+        [&mut || again.time(&icons.store, &mut Vec::new()), &mut || most.time(&icons.store, &mut Vec::new()), &mut || {
+            let mut packer = packed(&c, icons, all - 1);
+            let start = Instant::now();
+            let _ = black_box(packer.pack_ref(icons.images.len() as u32, &icons.arts[all - 1]));
+            micros(start)
+        }],
+    );
+    let ours = (longer - shorter) / 40.0;
     println!("| one offer or withdrawal with 255 standing | {name} | {side} | {ours:.0} | {theirs:.1} | {:.2} |", theirs / ours);
 }
 
@@ -102,16 +101,14 @@ fn inside(c: &Config) -> TexturePackerConfig {
     }
 }
 
-/// So many tests, replays and packings are timed together.
-const AGAIN: f64 = 40.0;
+/// So many questions stand in one script.
+const AGAIN: usize = 40;
 
-/// Microseconds of one of many.
-fn each_of_many<T>(thing: impl Fn() -> T) -> f64 {
+/// Microseconds of something.
+fn once<T>(thing: impl Fn() -> T) -> f64 {
     let start = Instant::now();
-    for _ in 0..AGAIN as usize {
-        black_box(thing());
-    }
-    micros(start) / AGAIN
+    black_box(thing());
+    micros(start)
 }
 
 /// A question of a full layout is the faithful test of its records and one search; beside it the plain replay, and the crate packing the icons afresh, without trimming.
@@ -119,7 +116,7 @@ pub fn faithful_test(side: u32, icons: &Icons, name: &str) {
     let c = config(side);
     let full = Calls::offering(&c, &icons.images);
     let mut asked = Calls::offering(&c, &icons.images);
-    (0..AGAIN as usize).for_each(|_| asked.push(&[1, 0, 8, 8], 16));
+    (0..AGAIN).for_each(|_| asked.push(&[1, 0, 8, 8], 16));
     let standing = records(&c, icons);
     let skyline = inside(&c);
     assert!(replayed(&skyline, &standing), "the replay does not give the records again");
@@ -132,10 +129,15 @@ pub fn faithful_test(side: u32, icons: &Icons, name: &str) {
         }
         packer.get_pages().len()
     };
-    let [ours, replay, pack] = in_turns([
-        &mut || (asked.time(&icons.store, &mut Vec::new()) - full.time(&icons.store, &mut Vec::new())) / AGAIN,
-        &mut || each_of_many(|| replayed(&skyline, black_box(&standing))),
-        &mut || each_of_many(afresh),
-    ]);
+    let [longer, shorter, replay, pack] = least_of(
+        TURNS,
+        [
+            &mut || asked.time(&icons.store, &mut Vec::new()),
+            &mut || full.time(&icons.store, &mut Vec::new()),
+            &mut || once(|| replayed(&skyline, black_box(&standing))),
+            &mut || once(afresh),
+        ],
+    );
+    let ours = (longer - shorter) / AGAIN as f64;
     println!("| {name} | {side} | {} | {ours:.0} | {replay:.0} | {:.2} | {pack:.0} |", standing.len(), replay / ours);
 }

@@ -2,7 +2,7 @@
 
 use super::icons::{config, Icons};
 use super::offers::packed;
-use super::timing::{median, micros, Calls, TURNS};
+use super::timing::{least_of, micros, Calls, TURNS};
 use crate::case::Config;
 use std::hint::black_box;
 use std::time::Instant;
@@ -25,24 +25,29 @@ pub fn composing(side: u32, icons: &Icons) {
     let packer = packed(&c, icons, icons.images.len());
     let exported = ImageExporter::export(&packer.get_pages()[0], None).expect("a page is exported");
     assert!(exported.as_bytes() == page, "the composed page is not the exported one");
-    let (mut a, mut b, mut d, mut e) = (Vec::new(), Vec::new(), Vec::new(), Vec::new());
     let mut copy = vec![0u8; size];
-    for turn in 0..TURNS {
-        let base = bare.time(&icons.store, &mut answers);
-        let composed = compose.time(&icons.store, &mut answers);
-        let checked = check.time(&icons.store, &mut answers);
-        a.push((composed - base) / pixels);
-        b.push((checked - composed) / pixels);
-        let start = Instant::now();
-        copy.copy_from_slice(black_box(&page));
-        black_box(&copy);
-        d.push(micros(start) / pixels);
-        if turn < 3 {
+    let [base, composed, checked, copied] = least_of(
+        TURNS,
+        [
+            &mut || bare.time(&icons.store, &mut Vec::new()),
+            &mut || compose.time(&icons.store, &mut Vec::new()),
+            &mut || check.time(&icons.store, &mut Vec::new()),
+            &mut || {
+                let start = Instant::now();
+                copy.copy_from_slice(black_box(&page));
+                black_box(&copy);
+                micros(start)
+            },
+        ],
+    );
+    let [exporter] = least_of(
+        3,
+        [&mut || {
             let start = Instant::now();
             let _ = black_box(ImageExporter::export(&packer.get_pages()[0], None));
-            e.push(micros(start) / pixels);
-        }
-    }
-    let (ours, checking, copying, theirs) = (median(a), median(b), median(d), median(e));
+            micros(start)
+        }],
+    );
+    let (ours, checking, copying, theirs) = ((composed - base) / pixels, (checked - composed) / pixels, copied / pixels, exporter / pixels);
     println!("| {side}x{side} | {ours:.2} | {checking:.2} | {copying:.2} | {theirs:.1} | {:.0} | {:.2} |", theirs / ours, checking / ours);
 }

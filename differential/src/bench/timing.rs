@@ -4,7 +4,8 @@ use crate::case::{Config, Image};
 use crate::library::run_into;
 use std::time::Instant;
 
-pub const TURNS: usize = 15;
+/// Of everything but trimming and the crate's exporter.
+pub const TURNS: usize = 25;
 
 /// A script for the library, with room for its answers.
 pub struct Calls {
@@ -61,23 +62,8 @@ pub fn micros(start: Instant) -> f64 {
     start.elapsed().as_nanos() as f64 / 1000.0
 }
 
-pub fn median(mut times: Vec<f64>) -> f64 {
-    times.sort_by(f64::total_cmp);
-    times[times.len() / 2]
-}
-
-/// Several things timed in turns; the median of each.
-pub fn in_turns<const N: usize>(mut things: [&mut dyn FnMut() -> f64; N]) -> [f64; N] {
-    let mut times = [(); N].map(|_| Vec::new());
-    for _ in 0..TURNS {
-        for (thing, its) in things.iter_mut().zip(&mut times) {
-            its.push(thing());
-        }
-    }
-    times.map(median)
-}
-
-/// Several things timed in turns; the least of each, which what else the machine does moves less than a median.
+/// Several things timed in turns; the least of each: what else the machine does can only add to a time. A difference is taken of two such, since the
+/// least of differences would be too small.
 pub fn least_of<const N: usize>(turns: usize, mut things: [&mut dyn FnMut() -> f64; N]) -> [f64; N] {
     let mut least = [f64::INFINITY; N];
     for _ in 0..turns {

@@ -18,18 +18,19 @@ struct Size {
 }
 
 const SIZES: [Size; 3] = [
-    Size { name: "16 to 64", least: 16, most: 64, images: 256 },
+    Size { name: "16 to 64", least: 16, most: 64, images: 8 },
     Size { name: "256", least: 256, most: 256, images: 4 },
     Size { name: "1024", least: 1024, most: 1024, images: 1 },
 ];
 
-/// How often each image is offered in one script, and how many turns are timed: fewer where a trim takes long.
+/// How often each image is offered in one script, and how many turns are timed: eight offers, or fewer where a trim takes long. A short script is often
+/// run through without a break, so that the least of many turns is what it takes.
 fn effort(alpha: Alpha, size: &Size) -> (usize, usize) {
     match (alpha, size.most) {
-        (Alpha::Margins, 1024) => (4, 40),
-        (Alpha::Margins, 256) => (16, 100),
-        (Alpha::Margins, _) => (1, 800),
-        _ => (256 / size.images as usize, 3000),
+        (Alpha::Margins, 1024) => (1, 60),
+        (Alpha::Margins, 256) => (1, 1000),
+        (Alpha::Margins, _) => (1, 5000),
+        _ => (8 / size.images as usize, 20_000),
     }
 }
 
@@ -75,7 +76,7 @@ impl Trims {
 }
 
 /// Of two differences below this, which of them is greater cannot be told.
-const TOLD: f64 = 0.1;
+const TOLD: f64 = 0.02;
 
 fn ratio(ours: f64, theirs: f64) -> String {
     if ours < TOLD || theirs < TOLD {
@@ -123,7 +124,7 @@ pub fn alone(words: &str) {
 fn counted(words: &str) -> f64 {
     let this = std::env::current_exe().expect("the program's own path");
     let output = Command::new("valgrind").args(["--tool=callgrind", "--callgrind-out-file=/dev/null"]).arg(this).args(["--trims", words]).output();
-    let said = String::from_utf8_lossy(&output.expect("valgrind is installed").stderr).to_string();
+    let said = String::from_utf8_lossy(&output.expect("valgrind cannot be started").stderr).to_string();
     let line = said.lines().find_map(|l| l.split_once("Collected : "));
     line.and_then(|(_, n)| n.trim().parse().ok()).unwrap_or_else(|| panic!("valgrind counts nothing: {said}"))
 }
