@@ -64,11 +64,19 @@ pub struct Background {
     pub discard: bool,
 }
 
-/// What a look goes through; `seed` picks pixels and rows where a page is too large for all.
+/// How much of a page a look goes through: every row, or only a few, in cases that have to be kept small.
+#[derive(Clone, Copy, Debug, PartialEq)]
+pub enum Detail {
+    Few,
+    Every,
+}
+
+/// What a look goes through; `seed` picks pixels and rows where not all are asked.
 #[derive(Clone, Copy, Debug, PartialEq)]
 pub struct Look {
     pub background: Background,
     pub seed: u64,
+    pub detail: Detail,
 }
 
 #[derive(Clone, Copy, Debug, PartialEq)]
@@ -98,6 +106,16 @@ impl Case {
 
     pub fn art(&self, image: &Image) -> Art {
         Art { store: self.store(image).clone(), offset: image.offset as usize, w: image.w, h: image.h }
+    }
+
+    /// The same case with every look of this detail.
+    pub fn looked_at(mut self, detail: Detail) -> Case {
+        for step in &mut self.steps {
+            if let Step::Look(look) = step {
+                look.detail = detail;
+            }
+        }
+        self
     }
 
     pub fn inside_stores(&self) -> bool {

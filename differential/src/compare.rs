@@ -1,7 +1,7 @@
 //! One case on both sides, and the first answer in which they differ.
 
 use crate::case::Case;
-use crate::expect::expect;
+use crate::expect::{expect, Aside};
 use crate::library;
 use crate::script::{About, Script};
 use crate::wrong::Reading;
@@ -46,14 +46,27 @@ impl Counts {
                 About::Withdraw => self.withdrawals += 1,
                 About::PageSize { .. } => self.page_sizes += 1,
                 About::Pixel { .. } => self.pixels += 1,
-                About::Rows { rows, .. } => {
-                    self.composed_rows += u64::from(*rows);
-                    self.composed_pixels += (script.answer(number, &script.expected).len() as u64 - 8) / 4;
-                }
+                About::Rows { rows, .. } => self.rows(*rows, script.answer(number, &script.expected)),
                 About::Check { .. } => self.checks += 1,
                 About::ImageRow { .. } => self.image_rows += 1,
                 About::Coordinates { .. } => self.coordinates += 1,
                 About::Source { .. } => self.sources += 1,
+            }
+        }
+    }
+
+    fn rows(&mut self, rows: u32, answer: &[u8]) {
+        self.composed_rows += u64::from(rows);
+        self.composed_pixels += (answer.len() as u64 - 8) / 4;
+    }
+
+    /// What is new in a script of its own: the offers in it were counted before.
+    fn add_aside(&mut self, script: &Script) {
+        for (number, (_, about)) in script.answers.iter().enumerate() {
+            match about {
+                About::Rows { rows, .. } => self.rows(*rows, script.answer(number, &script.expected)),
+                About::Check { .. } => self.checks += 1,
+                _ => {}
             }
         }
     }
@@ -169,22 +182,37 @@ fn panicked(what: Box<dyn std::any::Any + Send>) -> String {
 }
 
 /// The script of a case, or how the crate fails at it.
-pub fn scripted(case: &Case, reading: Reading) -> Result<Script, Difference> {
-    catch_unwind(AssertUnwindSafe(|| expect(case, reading))).map_err(|p| Difference { text: format!("the crate panics: {}", panicked(p)) })
+pub fn scripted(case: &Case, reading: Reading, aside: Aside) -> Result<Script, Difference> {
+    catch_unwind(AssertUnwindSafe(|| expect(case, reading, aside))).map_err(|p| Difference { text: format!("the crate panics: {}", panicked(p)) })
+}
+
+/// Where the library's answers to a script are not those expected, if they are not.
+fn differing(case: &Case, script: &Script) -> Option<Difference> {
+    match library::run(&script.bytes, &case.symbols, &case.wording, script.expected.len() + 64) {
+        None => Some(Difference { text: "the library touches bytes past its answers".to_string() }),
+        Some(answers) if answers == script.expected => None,
+        Some(answers) => Some(named(script, &answers)),
+    }
 }
 
 /// Where the two sides differ, if they do.
 pub fn compared(case: &Case, reading: Reading, counts: &mut Counts) -> Option<Difference> {
-    let script = match scripted(case, reading) {
+    let mut own = Counts::default();
+    let mut found = None;
+    let mut aside = |script: Script| {
+        if found.is_none() {
+            found = differing(case, &script);
+            own.add_aside(&script);
+        }
+    };
+    let script = match scripted(case, reading, &mut aside) {
         Ok(script) => script,
         Err(difference) => return Some(difference),
     };
-    let Some(answers) = library::run(&script.bytes, &case.symbols, &case.wording, script.expected.len() + 64) else {
-        return Some(Difference { text: "the library touches bytes past its answers".to_string() });
-    };
-    if answers == script.expected {
-        counts.add(case, &script);
-        return None;
+    found = differing(case, &script).or(found);
+    if found.is_none() {
+        own.add(case, &script);
+        counts.join(&own);
     }
-    Some(named(&script, &answers))
+    found
 }

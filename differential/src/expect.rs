@@ -1,40 +1,37 @@
 //! A case run on the crate: the script for the library, and the answers that the crate's make us expect.
 
-use crate::case::{Art, Background, Case, Image, Look, Step};
+use crate::case::{Art, Case, Detail, Image, Look, Step};
 use crate::formulas::{edges, fits_alone};
-use crate::packer::{read_as, Packed, Packer, Standing, Window};
+use crate::packer::{read_as, Packed, Packer, Standing};
 use crate::random::Random;
 use crate::script::{Corner, Script};
 use crate::wrong::Reading;
-use image::{DynamicImage, Rgba};
-use texture_packer::exporter::{BackgroundColorSettings, ImageExporter};
 use texture_packer::texture::Texture;
 use texture_packer::Frame;
 
-/// On a page of more pixels than this some are picked.
-const EVERY_PIXEL: u64 = 700;
-/// Of a page of more pixels than this some rows are composed.
-const EVERY_ROW: u64 = 40_000;
+/// Takes a script of its own for a part of a page that is too large to stand in the case's one.
+pub type Aside<'s> = &'s mut dyn FnMut(Script);
 
-struct Run<'c> {
-    case: &'c Case,
-    reading: Reading,
-    packer: Packer<'c>,
-    standing: Vec<Standing<'c>>,
+pub struct Run<'c, 's> {
+    pub case: &'c Case,
+    pub reading: Reading,
+    pub packer: Packer<'c>,
+    pub standing: Vec<Standing<'c>>,
     /// the crate holds more than what stands
     stale: bool,
-    script: Script,
+    pub script: Script,
+    pub aside: Aside<'s>,
 }
 
 /// What the crate does with a case.
-pub fn expect(case: &Case, reading: Reading) -> Script {
+pub fn expect(case: &Case, reading: Reading, aside: Aside) -> Script {
     let offered = |step: &Step| match step {
         Step::Offer(image) => Some(read_as(case, image, reading)),
         _ => None,
     };
     let arts: Vec<Option<Art>> = case.steps.iter().map(offered).collect();
     let packer = Packer::new(&case.config, reading);
-    let mut run = Run { case, reading, packer, standing: Vec::new(), stale: false, script: Script::new() };
+    let mut run = Run { case, reading, packer, standing: Vec::new(), stale: false, script: Script::new(), aside };
     run.script.open(&case.config, &[0]);
     for (step, art) in case.steps.iter().zip(&arts) {
         match (step, art) {
@@ -53,14 +50,7 @@ fn turn_of(frame: &Frame<u32>) -> u32 {
     u32::from(frame.rotated)
 }
 
-/// The same bytes with one changed.
-fn other(bytes: &[u8], place: usize) -> Vec<u8> {
-    let mut b = bytes.to_vec();
-    b[place] ^= 0x40;
-    b
-}
-
-impl<'c> Run<'c> {
+impl<'c> Run<'c, '_> {
     /// The crate over exactly what stands.
     fn refresh(&mut self) {
         if self.stale {
@@ -97,7 +87,7 @@ impl<'c> Run<'c> {
     }
 
     /// The offer's answer for a frame.
-    fn placed(&self, page: u32, frame: &Frame<u32>) -> Vec<u32> {
+    pub fn placed(&self, page: u32, frame: &Frame<u32>) -> Vec<u32> {
         let mut f = frame.frame;
         let mut turn = turn_of(frame);
         match self.reading {
@@ -142,12 +132,12 @@ impl<'c> Run<'c> {
             let (w, h) = self.size_of(page);
             self.script.page_size(page, &[0, w, h]);
             if self.case.config.pixels_compared() {
-                self.pixels(page, (w, h), &mut random);
+                self.pixels(page, (w, h), look, &mut random);
                 self.composed(page, (w, h), look, &mut random);
             }
         }
         self.script.page_size(pages, &[11]);
-        self.records(&mut random);
+        self.records(look.detail, &mut random);
     }
 
     fn size_of(&self, page: u32) -> (u32, u32) {
@@ -162,112 +152,17 @@ impl<'c> Run<'c> {
         }
     }
 
-    fn window(&self, page: u32, size: (u32, u32), first: u32, rows: u32) -> Window<'_> {
-        let c = &self.case.config;
-        Window { page: &self.packer.pages()[page as usize], size, first, rows, extrusion: c.extrusion, outlines: c.outlines, reading: self.reading }
-    }
-
-    /// Every pixel of a small page and of some columns and rows past its edge; of a large one pixels about the frames' edges and anywhere.
-    fn pixels(&mut self, page: u32, (w, h): (u32, u32), random: &mut Random) {
-        let past = self.case.config.extrusion + 1;
-        let mut points = Vec::new();
-        if u64::from(w + past) * u64::from(h + past) <= EVERY_PIXEL {
-            points.extend((0..h + past).flat_map(|y| (0..w + past).map(move |x| (x, y))));
-        } else {
-            for _ in 0..64 {
-                points.push((random.within(0, w + past), random.within(0, h + past)));
-            }
-            for s in self.standing.iter().filter(|s| s.page == page).take(24) {
-                let f = s.frame.frame;
-                let reach = 2 * past;
-                for _ in 0..8 {
-                    let x = (f.x + random.within(0, f.w + reach)).saturating_sub(past);
-                    let y = (f.y + random.within(0, f.h + reach)).saturating_sub(past);
-                    points.push((x, y));
-                }
-            }
-        }
-        let window = self.window(page, (w, h), 0, h);
-        let seen: Vec<_> = points.iter().map(|&(x, y)| (x, y, window.seen(x, y))).collect();
-        for (x, y, p) in seen {
-            self.script.pixel(page, x, y, p);
-        }
-        self.script.pixel(page, u32::MAX, u32::MAX, None);
-    }
-
-    /// The page's rows by the crate's exporter, without a background and with the look's.
-    fn composed(&mut self, page: u32, (w, h): (u32, u32), look: &Look, random: &mut Random) {
-        let whole = u64::from(w) * u64::from(h) <= EVERY_ROW;
-        for background in [None, Some(look.background)] {
-            let (first, rows) = if whole {
-                (0, h)
-            } else {
-                let first = random.within(0, h - 1);
-                (first, random.within(1, (h - first).min(6)))
-            };
-            let bytes = self.exported(page, (w, h), background, first, rows);
-            self.script.rows(page, background, first, rows, &bytes);
-            if bytes.len() > 4000 {
-                continue;
-            }
-            if whole && h > 1 {
-                let start = random.within(0, h - 1);
-                let count = random.within(1, h - start);
-                let line = 4 * w as usize;
-                self.script.rows(page, background, start, count, &bytes[start as usize * line..(start + count) as usize * line]);
-            }
-            self.script.check(page, background, first, rows, &bytes, &[0]);
-            let place = random.within(0, bytes.len() as u32 - 1);
-            let at = place / 4;
-            self.script.check(page, background, first, rows, &other(&bytes, place as usize), &[0, at % w, first + at / w]);
-        }
-    }
-
-    fn exported(&self, page: u32, size: (u32, u32), background: Option<Background>, first: u32, rows: u32) -> Vec<u8> {
-        let settings = || background.map(|g| self.settings(g));
-        let image = if self.reading == Reading::Right && first == 0 && rows == size.1 {
-            ImageExporter::export(&self.packer.pages()[page as usize], settings())
-        } else {
-            ImageExporter::export(&self.window(page, size, first, rows), settings())
-        };
-        match image.expect("the crate exports a page that has rows") {
-            DynamicImage::ImageRgba8(i) => {
-                let mut bytes = i.into_raw();
-                if self.reading == Reading::HoleWithoutBackground && background.is_some() {
-                    self.empty_holes(&mut bytes, &self.window(page, size, first, rows));
-                }
-                bytes
-            }
-            _ => panic!("the crate exports another form"),
-        }
-    }
-
-    fn settings(&self, g: Background) -> BackgroundColorSettings {
-        let threshold = match (self.reading, g.threshold) {
-            (Reading::ThresholdStrict, Some(t)) => Some(t.saturating_sub(1)),
-            (Reading::DiscardWithoutThreshold, None) if g.discard => Some(0),
-            (_, t) => t,
-        };
-        BackgroundColorSettings { color: Rgba(g.color), region_transparency_threshold: threshold, discard_own_alpha_on_threshold_test: g.discard }
-    }
-
-    fn empty_holes(&self, bytes: &mut [u8], window: &Window) {
-        for (place, pixel) in bytes.chunks_mut(4).enumerate() {
-            let (x, y) = (place as u32 % window.size.0, place as u32 / window.size.0);
-            if window.get(x, y).is_none() {
-                pixel.fill(0);
-            }
-        }
-    }
-
-    /// For each standing image its whole rows, its coordinates, and what its frame's corners show of its source.
-    fn records(&mut self, random: &mut Random) {
+    /// For each standing image (or a few of them) its whole rows, its coordinates, and what its frame's corners show of its source.
+    fn records(&mut self, detail: Detail, random: &mut Random) {
         let mut corners = Vec::new();
-        for s in &self.standing {
+        let few = detail == Detail::Few;
+        let step = if few { self.standing.len().div_ceil(5).max(1) } else { 1 };
+        for s in self.standing.iter().step_by(step) {
             let art = self.case.art(&s.image);
             let key = s.image.key;
             let source = s.frame.source;
-            for row in [0, source.h - 1, random.within(0, source.h - 1)] {
+            let rows = [0, source.h - 1, random.within(0, source.h - 1)];
+            for row in rows.into_iter().filter(|_| !few || source.w <= 32) {
                 let start = art.offset + 4 * (row * source.w) as usize;
                 self.script.image_row(key, row, Some(&art.store[start..start + 4 * source.w as usize]));
             }

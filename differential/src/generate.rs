@@ -1,6 +1,6 @@
 //! The cases: random ones of several kinds, each from a seed and a number, and the exhaustive small ones.
 
-use crate::case::{Background, Case, Config, Image, Look, Step};
+use crate::case::{Background, Case, Config, Detail, Image, Look, Step};
 use crate::random::Random;
 use std::rc::Rc;
 
@@ -35,6 +35,10 @@ fn kind_of(random: &mut Random) -> usize {
     }
 }
 
+pub fn random_kind(seed: u64, number: u64) -> usize {
+    kind_of(&mut Random::new(seed, number))
+}
+
 pub fn random_case(seed: u64, number: u64) -> (usize, Case) {
     let mut random = Random::new(seed, number);
     let kind = kind_of(&mut random);
@@ -42,7 +46,7 @@ pub fn random_case(seed: u64, number: u64) -> (usize, Case) {
     (kind, filled(&shape, &mut random))
 }
 
-fn switches(c: &mut Config, random: &mut Random) {
+pub fn switches(c: &mut Config, random: &mut Random) {
     c.rotation = random.once_in(2);
     c.trim = random.once_in(2);
     c.outlines = random.once_in(4);
@@ -50,14 +54,14 @@ fn switches(c: &mut Config, random: &mut Random) {
 }
 
 /// Distances that are mostly small, some at their greatest.
-fn distances(c: &mut Config, random: &mut Random) {
+pub fn distances(c: &mut Config, random: &mut Random) {
     let small = [0, 0, 0, 1, 1, 2, 3, 5];
     c.padding = if random.once_in(40) { random.within(0, 64) } else { random.pick(&small) };
     c.border = if random.once_in(40) { random.within(0, 64) } else { random.pick(&small) };
     c.extrusion = if random.once_in(40) { random.within(0, 16) } else { random.pick(&small[..7]) };
 }
 
-fn limits(c: &mut Config, random: &mut Random) {
+pub fn limits(c: &mut Config, random: &mut Random) {
     c.pages = random.within(1, 8);
     c.images = if random.once_in(6) { random.within(1, 12) } else { 256 };
 }
@@ -150,40 +154,41 @@ fn filled(shape: &Shape, random: &mut Random) -> Case {
     while offered < shape.images {
         steps.push(offer(shape, &mut stores, random));
         offered += 1;
-        between(shape, &mut steps, random);
+        between(shape.sides.1, shape.looks, &mut steps, random);
     }
-    steps.push(look(random));
+    steps.push(look(random, Detail::Every));
     // what is taken back, and what comes after it
     if random.once_in(2) {
         for _ in 0..random.within(1, shape.images.min(12) + 1) {
             steps.push(Step::Withdraw);
         }
-        steps.push(look(random));
+        steps.push(look(random, Detail::Every));
         for _ in 0..random.within(0, 4) {
             steps.push(offer(shape, &mut stores, random));
         }
-        steps.push(look(random));
+        steps.push(look(random, Detail::Every));
     }
     Case { config: shape.config, symbols: Rc::new(stores.symbols), wording: Rc::new(stores.wording), steps }
 }
 
-fn between(shape: &Shape, steps: &mut Vec<Step>, random: &mut Random) {
+/// What happens between two offers: questions of sides up to `side`, withdrawals, and looks once in `looks` times.
+pub fn between(side: u32, looks: u64, steps: &mut Vec<Step>, random: &mut Random) {
     if random.once_in(6) {
-        let side = shape.sides.1.max(2);
+        let side = side.max(2);
         steps.push(Step::Ask(random.within(0, 3), random.within(1, side), random.within(1, side)));
     }
     if random.once_in(12) {
         steps.push(Step::Withdraw);
     }
-    if random.once_in(shape.looks) {
-        steps.push(look(random));
+    if random.once_in(looks) {
+        steps.push(look(random, Detail::Every));
     }
 }
 
-fn look(random: &mut Random) -> Step {
+pub fn look(random: &mut Random, detail: Detail) -> Step {
     let threshold = random.pick(&[None, Some(0), Some(1), Some(127), Some(254), Some(255), Some(2), Some(3)]);
     let color = [random.byte(), random.byte(), random.byte(), random.byte()];
-    Step::Look(Look { background: Background { color, threshold, discard: random.once_in(2) }, seed: random.next() })
+    Step::Look(Look { background: Background { color, threshold, discard: random.once_in(2) }, seed: random.next(), detail })
 }
 
 /// A side; most are no longer than the maxima leave room for.
@@ -251,7 +256,7 @@ fn draw(store: &mut Vec<u8>, w: u32, h: u32, alpha: Alpha, random: &mut Random) 
 }
 
 /// Alpha near the thresholds more often than elsewhere.
-fn random_alpha(bits: u64) -> u8 {
+pub fn random_alpha(bits: u64) -> u8 {
     match bits & 7 {
         0 => 0,
         1 => 1,
@@ -283,7 +288,8 @@ pub fn exhaustive_case(number: u64, stores: &(Rc<Vec<u8>>, Rc<Vec<u8>>)) -> Case
             Step::Offer(Image { key, wording: key == 1, offset: 64 * (key / 2), w, h })
         })
         .collect();
-    steps.push(Step::Look(Look { background: Background { color: [9, 9, 9, 9], threshold: None, discard: false }, seed: number }));
+    let background = Background { color: [9, 9, 9, 9], threshold: None, discard: false };
+    steps.push(Step::Look(Look { background, seed: number, detail: Detail::Every }));
     Case { config, symbols: stores.0.clone(), wording: stores.1.clone(), steps }
 }
 

@@ -2,6 +2,7 @@
 
 mod bench;
 mod case;
+mod compact;
 mod compare;
 mod expect;
 mod files;
@@ -9,9 +10,11 @@ mod formulas;
 mod generate;
 mod library;
 mod options;
+mod ours;
 mod packer;
 mod random;
 mod script;
+mod shown;
 mod shrink;
 mod sketch;
 mod wrong;
@@ -143,6 +146,34 @@ fn shown_to_see(options: &Options) -> u64 {
     unseen
 }
 
+/// What is timed, counted or written instead of being compared; whether there was such a thing.
+fn other_work(options: &Options) -> bool {
+    if let Some(words) = &options.trims {
+        bench::alone(words);
+    } else if options.bench {
+        bench::all();
+    } else if options.instructions {
+        bench::instructions();
+    } else if let Some(folder) = &options.write {
+        if let Err(error) = files::write_cases(folder.as_ref(), options) {
+            eprintln!("{error}");
+            std::process::exit(1);
+        }
+    } else {
+        return false;
+    }
+    true
+}
+
+/// The number of failures.
+fn comparison(options: &Options) -> u64 {
+    if options.show_that_it_sees {
+        return shown_to_see(options);
+    }
+    let small = if options.exhaustive { exhaustive_cases() } else { 0 };
+    small + random_cases(options)
+}
+
 fn main() {
     let options = match Options::read(std::env::args().skip(1)) {
         Ok(options) => options,
@@ -151,32 +182,16 @@ fn main() {
             std::process::exit(2);
         }
     };
-    if options.bench {
-        bench::all();
-        return;
-    }
-    // a panic of the crate is reported as a difference
-    std::panic::set_hook(Box::new(|_| {}));
-    if let Some(folder) = &options.write {
-        if let Err(error) = files::write_cases(folder.as_ref(), &options) {
-            eprintln!("{error}");
-            std::process::exit(1);
-        }
+    if other_work(&options) {
         return;
     }
     if options.cases == 0 && (options.show_that_it_sees || !options.exhaustive) {
         eprintln!("nothing to compare");
         std::process::exit(2);
     }
-    let mut failures = 0;
-    if options.show_that_it_sees {
-        failures += shown_to_see(&options);
-    } else {
-        if options.exhaustive {
-            failures += exhaustive_cases();
-        }
-        failures += random_cases(&options);
-    }
+    // a panic of the crate is reported as a difference
+    std::panic::set_hook(Box::new(|_| {}));
+    let failures = comparison(&options);
     let good = if options.show_that_it_sees { "every wrong reading is found" } else { "no difference" };
     println!("{}", if failures == 0 { good } else { "FAILED" });
     std::process::exit(i32::from(failures > 0));

@@ -8,34 +8,56 @@ pub struct Options {
     pub show_that_it_sees: bool,
     pub verbose: bool,
     pub bench: bool,
+    pub instructions: bool,
+    pub trims: Option<String>,
     pub write: Option<String>,
     pub count: u64,
     pub largest: usize,
 }
 
-const USAGE: &str = "run [--cases N] [--first N] [--seed S] [--no-exhaustive] [--show-that-it-sees [--verbose]] [--bench] [--write DIR [--count N] [--largest BYTES]]";
+const USAGE: &str =
+    "run [--cases N] [--first N] [--seed S] [--no-exhaustive] [--show-that-it-sees [--verbose]] [--bench | --instructions | --write DIR [--count N] [--largest BYTES]]";
+
+impl Default for Options {
+    fn default() -> Options {
+        Options {
+            cases: 20_000,
+            first: 0,
+            seed: 1,
+            exhaustive: true,
+            show_that_it_sees: false,
+            verbose: false,
+            bench: false,
+            instructions: false,
+            trims: None,
+            write: None,
+            count: 100,
+            largest: 8192,
+        }
+    }
+}
 
 impl Options {
     pub fn read(words: impl Iterator<Item = String>) -> Result<Options, String> {
-        let mut o =
-            Options { cases: 20_000, first: 0, seed: 1, exhaustive: true, show_that_it_sees: false, verbose: false, bench: false, write: None, count: 100, largest: 8192 };
+        let mut o = Options::default();
         let mut words = words;
         while let Some(word) = words.next() {
-            if word == "--write" {
-                o.write = Some(words.next().ok_or(format!("{word} takes a folder\n{USAGE}"))?);
-                continue;
-            }
-            let mut number = || words.next().and_then(|n| n.parse::<u64>().ok()).ok_or(format!("{word} takes a number\n{USAGE}"));
+            let mut next = || words.next().ok_or(format!("{word} takes a word more\n{USAGE}"));
+            let number = |text: String| text.parse::<u64>().map_err(|_| format!("{word} takes a number\n{USAGE}"));
             match word.as_str() {
-                "--cases" => o.cases = number()?,
-                "--first" => o.first = number()?,
-                "--seed" => o.seed = number()?,
-                "--count" => o.count = number()?,
-                "--largest" => o.largest = number()? as usize,
+                "--cases" => o.cases = number(next()?)?,
+                "--first" => o.first = number(next()?)?,
+                "--seed" => o.seed = number(next()?)?,
+                "--count" => o.count = number(next()?)?,
+                "--largest" => o.largest = number(next()?)? as usize,
+                "--write" => o.write = Some(next()?),
+                // one side's trimming alone, which `--instructions` starts
+                "--trims" => o.trims = Some(next()?),
                 "--no-exhaustive" => o.exhaustive = false,
                 "--show-that-it-sees" => o.show_that_it_sees = true,
                 "--verbose" => o.verbose = true,
                 "--bench" => o.bench = true,
+                "--instructions" => o.instructions = true,
                 _ => return Err(format!("no option {word}\n{USAGE}")),
             }
         }

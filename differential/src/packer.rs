@@ -110,7 +110,7 @@ pub fn read_as(case: &Case, image: &Image, reading: Reading) -> Art {
     case.art(image)
 }
 
-/// Some rows of a page of the crate, as a texture of their own, so that its exporter composes them.
+/// Some rows of a page of the crate.
 pub struct Window<'p> {
     pub page: &'p Page<'p>,
     pub size: (u32, u32),
@@ -148,19 +148,35 @@ impl Window<'_> {
     }
 }
 
-impl Texture for Window<'_> {
+/// The rows of a window, read once from the page's `get`, as a texture of their own, so that the crate's exporter composes them.
+pub struct Rows {
+    width: u32,
+    height: u32,
+    pixels: Vec<Option<Rgba<u8>>>,
+}
+
+impl Rows {
+    pub fn of(window: &Window) -> Rows {
+        let (width, height) = (window.size.0, window.rows);
+        let points = (0..height).flat_map(|y| (0..width).map(move |x| (x, y)));
+        let pixels = points.map(|(x, y)| window.seen(x, window.first + y).map(Rgba)).collect();
+        Rows { width, height, pixels }
+    }
+}
+
+impl Texture for Rows {
     type Pixel = Rgba<u8>;
 
     fn width(&self) -> u32 {
-        self.size.0
+        self.width
     }
 
     fn height(&self) -> u32 {
-        self.rows
+        self.height
     }
 
     fn get(&self, x: u32, y: u32) -> Option<Rgba<u8>> {
-        self.seen(x, self.first + y).map(Rgba)
+        self.pixels[y as usize * self.width as usize + x as usize]
     }
 
     fn set(&mut self, _x: u32, _y: u32, _val: Rgba<u8>) {

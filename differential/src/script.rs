@@ -110,11 +110,13 @@ impl Script {
         }
     }
 
-    pub fn rows(&mut self, page: u32, background: Option<Background>, first: u32, rows: u32, composed: &[u8]) {
+    /// Composes rows; where their bytes start in the answers.
+    pub fn rows(&mut self, page: u32, background: Option<Background>, first: u32, rows: u32, composed: &[u8]) -> usize {
         push(&mut self.bytes, &[6, page]);
         self.background(background);
         push(&mut self.bytes, &[first, rows, composed.len() as u32]);
         self.expect_bytes(About::Rows { page, first, rows, background }, composed);
+        self.expected.len() - composed.len()
     }
 
     /// Rows that stand in the script itself are checked.
@@ -125,6 +127,14 @@ impl Script {
         push(&mut self.bytes, &[7, page]);
         self.background(background);
         push(&mut self.bytes, &[first, rows, 0, start, composed.len() as u32]);
+        self.expect(About::Check { page, first, rows }, answer);
+    }
+
+    /// Rows that stand in the answers are checked: where their bytes start, and how many there are.
+    pub fn check_answered(&mut self, page: u32, background: Option<Background>, (first, rows): (u32, u32), (start, length): (usize, usize), answer: &[u32]) {
+        push(&mut self.bytes, &[7, page]);
+        self.background(background);
+        push(&mut self.bytes, &[first, rows, 1, start as u32, length as u32]);
         self.expect(About::Check { page, first, rows }, answer);
     }
 
