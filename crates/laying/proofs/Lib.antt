@@ -1,1 +1,2 @@
 pub mod Offers
+pub mod Theorems
