@@ -1,9 +1,10 @@
 #!/usr/bin/env python3
-"""Draws the example's art: symbols.rgba, wording.rgba and pump.job. Standard library only.
+"""draw.py FOLDER: draws the example's art and writes its job: symbols.rgba, wording.rgba, pump.job. Standard library only.
 
-The three files are in the repository as this script wrote them; run it again to see that it does.
+crates/pack/data and crates/verify/data have the three files as this script writes them.
 """
-import math
+import os
+import sys
 
 FINE = 4  # samples a side of a pixel, for alpha at the edges
 
@@ -131,6 +132,9 @@ background 16 24 32 255 none      off
 
 
 def main():
+    if len(sys.argv) != 2:
+        sys.exit(__doc__)
+    folder = sys.argv[1]
     lines, key = [], 1
     for store, pictures in (("symbols", SYMBOLS), ("wording", WORDING)):
         data = b""
@@ -138,9 +142,9 @@ def main():
             lines.append(f"image {key:<3} {store} {len(data):<6} {w:<5} {h}")
             data += pixels
             key += 1
-        with open(store + ".rgba", "wb") as f:
+        with open(os.path.join(folder, store + ".rgba"), "wb") as f:
             f.write(data)
-    with open("pump.job", "w") as f:
+    with open(os.path.join(folder, "pump.job"), "w") as f:
         f.write(HEAD + "\n".join(lines) + "\n")
 
 
