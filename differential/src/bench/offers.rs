@@ -10,6 +10,9 @@ use texture_packer_inside::packer::{Packer, SkylinePacker};
 use texture_packer_inside::rect::Rect;
 use texture_packer_inside::texture_packer_config::TexturePackerConfig;
 
+/// So many questions, or offers and withdrawals, stand in one script beside the 256 offers, so that they take no less than these.
+const AGAIN: usize = 200;
+
 pub fn packed<'a>(c: &Config, icons: &'a Icons, count: usize) -> MultiTexturePacker<'a, Art, u32> {
     let mut packer = MultiTexturePacker::new_skyline(c.for_crate());
     for (image, art) in icons.images.iter().zip(&icons.arts).take(count) {
@@ -29,7 +32,7 @@ pub fn offers(side: u32, icons: &Icons, name: &str) {
     // with 255 standing, an offer and its withdrawal again and again: half of what is added is one of the two
     let most = Calls::offering(&c, &icons.images[..all - 1]);
     let mut again = Calls::offering(&c, &icons.images[..all - 1]);
-    for _ in 0..20 {
+    for _ in 0..AGAIN / 2 {
         again.offer(&icons.images[all - 1]);
         again.push(&[3], 16);
     }
@@ -42,7 +45,7 @@ pub fn offers(side: u32, icons: &Icons, name: &str) {
             micros(start)
         }],
     );
-    let ours = (longer - shorter) / 40.0;
+    let ours = (longer - shorter) / AGAIN as f64;
     println!("| one offer or withdrawal with 255 standing | {name} | {side} | {ours:.0} | {theirs:.1} | {:.2} |", theirs / ours);
 }
 
@@ -100,9 +103,6 @@ fn inside(c: &Config) -> TexturePackerConfig {
         texture_outlines: k.texture_outlines,
     }
 }
-
-/// So many questions stand in one script.
-const AGAIN: usize = 40;
 
 /// Microseconds of something.
 fn once<T>(thing: impl Fn() -> T) -> f64 {

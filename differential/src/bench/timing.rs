@@ -8,6 +8,7 @@ use std::time::Instant;
 pub const TURNS: usize = 25;
 
 /// A script for the library, with room for its answers.
+#[derive(Clone)]
 pub struct Calls {
     words: Vec<u32>,
     room: usize,
