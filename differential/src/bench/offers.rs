@@ -1,14 +1,16 @@
 //! Offers, and the faithful test beside a plain replay.
 
 use super::icons::{config, Icons};
-use super::timing::{least_of, micros, Calls, TURNS};
+use super::timing::{least_of, timed, Calls, TURNS};
 use crate::case::{Art, Config};
 use std::hint::black_box;
-use std::time::Instant;
 use texture_packer::MultiTexturePacker;
 use texture_packer_inside::packer::{Packer, SkylinePacker};
 use texture_packer_inside::rect::Rect;
 use texture_packer_inside::texture_packer_config::TexturePackerConfig;
+
+/// So many questions, or offers and withdrawals, stand in one script beside the 256 offers, so that they take no less than these.
+const AGAIN: usize = 200;
 
 pub fn packed<'a>(c: &Config, icons: &'a Icons, count: usize) -> MultiTexturePacker<'a, Art, u32> {
     let mut packer = MultiTexturePacker::new_skyline(c.for_crate());
@@ -23,13 +25,13 @@ pub fn offers(side: u32, icons: &Icons, name: &str) {
     let c = config(side);
     let all = icons.images.len();
     let every = Calls::offering(&c, &icons.images);
-    let [ours, theirs] = least_of(TURNS, [&mut || every.time(&icons.store, &mut Vec::new()), &mut || once(|| packed(&c, icons, all).get_pages().len())]);
+    let [ours, theirs] = least_of(TURNS, [&mut || every.time(&icons.store, &mut Vec::new()), &mut || timed(|| packed(&c, icons, all).get_pages().len())]);
     println!("| 256 offers one by one | {name} | {side} | {ours:.0} | {theirs:.1} | {:.2} |", theirs / ours);
 
     // with 255 standing, an offer and its withdrawal again and again: half of what is added is one of the two
     let most = Calls::offering(&c, &icons.images[..all - 1]);
     let mut again = Calls::offering(&c, &icons.images[..all - 1]);
-    for _ in 0..20 {
+    for _ in 0..AGAIN / 2 {
         again.offer(&icons.images[all - 1]);
         again.push(&[3], 16);
     }
@@ -37,12 +39,10 @@ pub fn offers(side: u32, icons: &Icons, name: &str) {
         TURNS,
         [&mut || again.time(&icons.store, &mut Vec::new()), &mut || most.time(&icons.store, &mut Vec::new()), &mut || {
             let mut packer = packed(&c, icons, all - 1);
-            let start = Instant::now();
-            let _ = black_box(packer.pack_ref(icons.images.len() as u32, &icons.arts[all - 1]));
-            micros(start)
+            timed(|| packer.pack_ref(icons.images.len() as u32, &icons.arts[all - 1]))
         }],
     );
-    let ours = (longer - shorter) / 40.0;
+    let ours = (longer - shorter) / AGAIN as f64;
     println!("| one offer or withdrawal with 255 standing | {name} | {side} | {ours:.0} | {theirs:.1} | {:.2} |", theirs / ours);
 }
 
@@ -101,16 +101,6 @@ fn inside(c: &Config) -> TexturePackerConfig {
     }
 }
 
-/// So many questions stand in one script.
-const AGAIN: usize = 40;
-
-/// Microseconds of something.
-fn once<T>(thing: impl Fn() -> T) -> f64 {
-    let start = Instant::now();
-    black_box(thing());
-    micros(start)
-}
-
 /// A question of a full layout is the faithful test of its records and one search; beside it the plain replay, and the crate packing the icons afresh, without trimming.
 pub fn faithful_test(side: u32, icons: &Icons, name: &str) {
     let c = config(side);
@@ -134,8 +124,8 @@ pub fn faithful_test(side: u32, icons: &Icons, name: &str) {
         [
             &mut || asked.time(&icons.store, &mut Vec::new()),
             &mut || full.time(&icons.store, &mut Vec::new()),
-            &mut || once(|| replayed(&skyline, black_box(&standing))),
-            &mut || once(afresh),
+            &mut || timed(|| replayed(&skyline, black_box(&standing))),
+            &mut || timed(afresh),
         ],
     );
     let ours = (longer - shorter) / AGAIN as f64;

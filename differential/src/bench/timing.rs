@@ -2,12 +2,14 @@
 
 use crate::case::{Config, Image};
 use crate::library::run_into;
+use std::hint::black_box;
 use std::time::Instant;
 
 /// Of everything but trimming and the crate's exporter.
 pub const TURNS: usize = 25;
 
 /// A script for the library, with room for its answers.
+#[derive(Clone)]
 pub struct Calls {
     words: Vec<u32>,
     room: usize,
@@ -60,6 +62,13 @@ impl Calls {
 
 pub fn micros(start: Instant) -> f64 {
     start.elapsed().as_nanos() as f64 / 1000.0
+}
+
+/// Microseconds of something.
+pub fn timed<T>(thing: impl FnOnce() -> T) -> f64 {
+    let start = Instant::now();
+    black_box(thing());
+    micros(start)
 }
 
 /// Several things timed in turns; the least of each: what else the machine does can only add to a time. A difference is taken of two such, since the
