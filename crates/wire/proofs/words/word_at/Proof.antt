@@ -1,5 +1,4 @@
 -- `word_at` reads four bytes. Assumes nothing.
-use mathlib.Core.Path.{_≡_, sym, ap, _∙_}
 use native.Mathlib.Omega.{arith}
 use Rattle.wire.specs.Bytes.{wordAt}
 use borrow.Author.Needs.{needs}
