@@ -1,1 +1,3 @@
+pub mod Doing
+pub mod Running
 pub mod Stepping

@@ -135,3 +135,26 @@ lent-put a e l v h g n =
     let k : a + (e - a) ≡ a + length v = omega arith in
     ap (λ (z : List ℕ). take a l ++ (v ++ z)) (drop-drop (e - a) a l ∙ ap (λ (m : ℕ). drop m l) k)
     ∙ sym (append-assoc (take a l) v (drop (a + length v) l))
+
+-- words behind words
+pub words-behind : (old : List ℕ) (w at : ℕ) (ms ns : List ℕ) → at ≡ w + 4 * length ms → w + 4 * (length ms + length ns) ≤ length old
+    → put (put old w (wordsBytes ms)) at (wordsBytes ns) ≡ put old w (wordsBytes (ms ++ ns))
+words-behind old w at ms ns e h =
+    let m = words-long ms in
+    let n = words-long ns in
+    let here : at ≡ w + length (wordsBytes ms) = omega arith in
+    ap (λ (k : ℕ). put (put old w (wordsBytes ms)) k (wordsBytes ns)) here
+    ∙ put-behind old w (wordsBytes ms) (wordsBytes ns) (omega arith)
+    ∙ ap (put old w) (sym (words-append ms ns))
+
+pub first-word : {z : List ℕ} (old : List ℕ) (w n : ℕ) → z ≡ put old w (wordBytes n) → z ≡ put old w (wordsBytes (n ∷ []))
+first-word old w n e = e ∙ ap (put old w) (sym (words-one n))
+
+-- one word more behind those that are written
+pub one-word-more : {y z : List ℕ} (old : List ℕ) (w at : ℕ) (ms : List ℕ) (n : ℕ) → y ≡ put old w (wordsBytes ms) → z ≡ put y at (wordBytes n)
+    → at ≡ w + 4 * length ms → w + 4 * length ms + 4 ≤ length old → z ≡ put old w (wordsBytes (ms ++ n ∷ []))
+one-word-more {y} {z} old w at ms n p q e h =
+    q
+    ∙ ap (λ (l : List ℕ). put l at (wordBytes n)) p
+    ∙ ap (put (put old w (wordsBytes ms)) at) (sym (words-one n))
+    ∙ words-behind old w at ms (n ∷ []) e (omega arith)

@@ -1,9 +1,15 @@
--- `run_command` has the words of each command. Assumes nothing.
-use Prim.Native.Nat.{_+_, _-_, _*_, _≤_}
-use native.Mathlib.Omega.{arith}
-use Rattle.commands.specs.Taking.{wordsOf}
+-- `run_command` runs the command that the number names. Assumes nothing.
+use Rattle.commands.specs.Telling.{told, locateTold}
+use Rattle.script.specs.Stepping.{nextAt, setStep, dataStep, commandStep}
+use Rattle.script.proofs.Ways.{first-six-step, telling-is, quiet-set, quiet-data}
+use Rattle.script.proofs.Answers.{does-as, does-quiet}
 use Rattle.commands.proofs.Counts.{there-is}
-use Rattle.script.proofs.Going.{stays}
+use Rattle.commands.specs.Taking.{wordsOf}
+use Rattle.art.specs.Stores.{lent}
+use native.Mathlib.Omega.{arith}
+use lib.ListN.{length, take}
+use mathlib.Core.Path.{_≡_, refl, ap, _∙_}
+use Prim.Native.Nat.{_+_, _*_}
 use borrow.Author.Needs.{needs}
 use Rattle.script.proofs.running.run_command.Statement.{statement}
 use Rattle.script.proofs.running.run_command.Tie as tie
@@ -30,67 +36,94 @@ same-length : tie.Need-same-length
 same-length c = search needs
 
 returns : tie.Need-returns
-returns c = search needs
+unfolding nextAt
+returns c =
+    let a = c .before .before .before .before .before .before .before .before .before .before .before .args in
+    let script = a .script .now in
+    let s = lent (a .symbols .now) (a .wording .now) in
+    let old = a .answers .now in
+    let said = take (a .written) old in
+    let room = length old in
+    let t = c .before .before .before .before .before .first-six .ensures in
+    let words = c .before .before .before .before .words-of .ensures in
+    let p = c .before .before .say in
+    let next : a .at + 4 + 4 * c .before .before .before .before .words-of .result ≡ a .at + 4 * (1 + wordsOf (a .command)) = omega arith in
+    does-as (a .written) old (p .result) (commandStep script s room said (a .at) (a .l) (a .command)) _ _
+    (first-six-step script s room said (a .at) (a .l) (a .command) (omega arith)
+    ∙ telling-is room said (a .at) (a .command) (told script (a .at) s (a .l) (a .command)) _ _ _ (t .layout) next (t .says .words))
+    (p .ensures)
 
 compose-step-requires : tie.Need-compose-step-requires
 unfolding wordsOf
 compose-step-requires c κs =
-    let s = c .before .before .before .before .before .before .before in
-    let h = there-is (s .args .script .now) (s .args .at) (s .args .command) 6 (omega arith) (s .pre .0 .1) in
-    (omega arith, s .pre .1)
+    let z = c .before .before .before .before .before .before .before in
+    let h = there-is (z .args .script .now) (z .args .at) (z .args .command) 6 (omega arith) (z .pre .0 .1) in
+    (omega arith, z .pre .1)
 
 same-length-2 : tie.Need-same-length-2
 same-length-2 c = search needs
 
 returns-2 : tie.Need-returns-2
-unfolding wordsOf
+unfolding commandStep
 returns-2 c =
-    let s = c .before .before .before .before .before .before .before .before .before .before in
-    let h = there-is (s .args .script .now) (s .args .at) (s .args .command) 6 (omega arith) (s .pre .0 .1) in
-    let p = c .before .before .compose-step .ensures in
-    (p .0, (omega arith, omega arith))
+    let a = c .before .before .before .before .before .before .before .before .before .before .args in
+    let script = a .script .now in
+    let s = lent (a .symbols .now) (a .wording .now) in
+    let old = a .answers .now in
+    let said = take (a .written) old in
+    let room = length old in
+    let e : a .command ≡ 6 = omega arith in
+    does-as (a .written) old (c .before .before .compose-step .result) (commandStep script s room said (a .at) (a .l) (a .command)) _ _ (ap (commandStep script s room said (a .at) (a .l)) e) (c .before .before .compose-step .ensures)
 
 check-step-requires : tie.Need-check-step-requires
 unfolding wordsOf
 check-step-requires c κs =
-    let s = c .before .before .before .before .before .before .before .before in
-    let h = there-is (s .args .script .now) (s .args .at) (s .args .command) 7 (omega arith) (s .pre .0 .1) in
-    (omega arith, s .pre .1)
+    let z = c .before .before .before .before .before .before .before .before in
+    let h = there-is (z .args .script .now) (z .args .at) (z .args .command) 7 (omega arith) (z .pre .0 .1) in
+    (omega arith, z .pre .1)
 
 same-length-3 : tie.Need-same-length-3
 same-length-3 c = search needs
 
 returns-3 : tie.Need-returns-3
-unfolding wordsOf
+unfolding commandStep
 returns-3 c =
-    let s = c .before .before .before .before .before .before .before .before .before .before .before in
-    let h = there-is (s .args .script .now) (s .args .at) (s .args .command) 7 (omega arith) (s .pre .0 .1) in
-    let p = c .before .before .check-step .ensures in
-    (p .0, (omega arith, omega arith))
+    let a = c .before .before .before .before .before .before .before .before .before .before .before .args in
+    let script = a .script .now in
+    let s = lent (a .symbols .now) (a .wording .now) in
+    let old = a .answers .now in
+    let said = take (a .written) old in
+    let room = length old in
+    let e : a .command ≡ 7 = omega arith in
+    does-as (a .written) old (c .before .before .check-step .result) (commandStep script s room said (a .at) (a .l) (a .command)) _ _ (ap (commandStep script s room said (a .at) (a .l)) e) (c .before .before .check-step .ensures)
 
 row-step-requires : tie.Need-row-step-requires
 unfolding wordsOf
 row-step-requires c κs =
-    let s = c .before .before .before .before .before .before .before .before .before in
-    let h = there-is (s .args .script .now) (s .args .at) (s .args .command) 8 (omega arith) (s .pre .0 .1) in
-    (omega arith, s .pre .1)
+    let z = c .before .before .before .before .before .before .before .before .before in
+    let h = there-is (z .args .script .now) (z .args .at) (z .args .command) 8 (omega arith) (z .pre .0 .1) in
+    (omega arith, z .pre .1)
 
 same-length-4 : tie.Need-same-length-4
 same-length-4 c = search needs
 
 returns-4 : tie.Need-returns-4
-unfolding wordsOf
+unfolding commandStep
 returns-4 c =
-    let s = c .before .before .before .before .before .before .before .before .before .before .before .before in
-    let h = there-is (s .args .script .now) (s .args .at) (s .args .command) 8 (omega arith) (s .pre .0 .1) in
-    let p = c .before .before .row-step .ensures in
-    (p .0, (omega arith, omega arith))
+    let a = c .before .before .before .before .before .before .before .before .before .before .before .before .args in
+    let script = a .script .now in
+    let s = lent (a .symbols .now) (a .wording .now) in
+    let old = a .answers .now in
+    let said = take (a .written) old in
+    let room = length old in
+    let e : a .command ≡ 8 = omega arith in
+    does-as (a .written) old (c .before .before .row-step .result) (commandStep script s room said (a .at) (a .l) (a .command)) _ _ (ap (commandStep script s room said (a .at) (a .l)) e) (c .before .before .row-step .ensures)
 
 coordinates-requires : tie.Need-coordinates-requires
 unfolding wordsOf
 coordinates-requires c κs =
-    let s = c .before .before .before .before .before .before .before .before .before .before in
-    let h = there-is (s .args .script .now) (s .args .at) (s .args .command) 9 (omega arith) (s .pre .0 .1) in
+    let z = c .before .before .before .before .before .before .before .before .before .before in
+    let h = there-is (z .args .script .now) (z .args .at) (z .args .command) 9 (omega arith) (z .pre .0 .1) in
     omega arith
 
 add-say : tie.Need-add-say
@@ -103,42 +136,60 @@ same-length-5 : tie.Need-same-length-5
 same-length-5 c = search needs
 
 returns-5 : tie.Need-returns-5
-unfolding wordsOf
+unfolding commandStep nextAt wordsOf locateTold
 returns-5 c =
-    let s = c .before .before .before .before .before .before .before .before .before .before .before .before .before .before in
-    let h = there-is (s .args .script .now) (s .args .at) (s .args .command) 9 (omega arith) (s .pre .0 .1) in
-    let p = c .before .before .say2 .ensures in
-    (p .0, (omega arith, omega arith))
+    let a = c .before .before .before .before .before .before .before .before .before .before .before .before .before .before .args in
+    let script = a .script .now in
+    let s = lent (a .symbols .now) (a .wording .now) in
+    let old = a .answers .now in
+    let said = take (a .written) old in
+    let room = length old in
+    let e : a .command ≡ 9 = omega arith in
+    let p = c .before .before .say2 in
+    does-as (a .written) old (p .result) (commandStep script s room said (a .at) (a .l) (a .command)) _ _
+    (ap (commandStep script s room said (a .at) (a .l)) e
+    ∙ telling-is room said (a .at) 9 (locateTold script (a .at) (a .l)) (a .l) (a .at + 16) _ refl refl (c .before .before .before .coordinates .ensures .words))
+    (p .ensures)
 
 set-step-requires : tie.Need-set-step-requires
 unfolding wordsOf
 set-step-requires c κs =
-    let s = c .before .before .before .before .before .before .before .before .before .before in
-    let h = there-is (s .args .script .now) (s .args .at) (s .args .command) 10 (omega arith) (s .pre .0 .1) in
+    let z = c .before .before .before .before .before .before .before .before .before .before in
+    let h = there-is (z .args .script .now) (z .args .at) (z .args .command) 10 (omega arith) (z .pre .0 .1) in
     omega arith
 
 returns-6 : tie.Need-returns-6
-unfolding wordsOf
+unfolding commandStep
 returns-6 c =
-    let s = c .before .before .before .before .before .before .before .before .before .before .before in
-    let h = there-is (s .args .script .now) (s .args .at) (s .args .command) 10 (omega arith) (s .pre .0 .1) in
-    let p = c .set-step .ensures in
-    (stays _ _ _ (p .0) (s .pre .1), (omega arith, omega arith))
+    let a = c .before .before .before .before .before .before .before .before .before .before .before .args in
+    let script = a .script .now in
+    let s = lent (a .symbols .now) (a .wording .now) in
+    let old = a .answers .now in
+    let said = take (a .written) old in
+    let room = length old in
+    let e : a .command ≡ 10 = omega arith in
+    does-as (a .written) old (c .set-step .result) (commandStep script s room said (a .at) (a .l) (a .command)) _ _ (ap (commandStep script s room said (a .at) (a .l)) e)
+    (does-quiet (a .written) old (c .set-step .result) (setStep script (a .at) (a .l)) (quiet-set script (a .at) (a .l)) (c .set-step .ensures))
 
 data-step-requires : tie.Need-data-step-requires
 unfolding wordsOf
 data-step-requires c κs =
-    let s = c .before .before .before .before .before .before .before .before .before .before in
-    let h = there-is (s .args .script .now) (s .args .at) (s .args .command) 11 (omega arith) (s .pre .0 .1) in
+    let z = c .before .before .before .before .before .before .before .before .before .before in
+    let h = there-is (z .args .script .now) (z .args .at) (z .args .command) 11 (omega arith) (z .pre .0 .1) in
     omega arith
 
 returns-7 : tie.Need-returns-7
-unfolding wordsOf
+unfolding commandStep
 returns-7 c =
-    let s = c .before .before .before .before .before .before .before .before .before .before .before in
-    let h = there-is (s .args .script .now) (s .args .at) (s .args .command) 11 (omega arith) (s .pre .0 .1) in
-    let p = c .data-step .ensures in
-    (stays _ _ _ (p .0) (s .pre .1), (p .1, p .2))
+    let a = c .before .before .before .before .before .before .before .before .before .before .before .args in
+    let script = a .script .now in
+    let s = lent (a .symbols .now) (a .wording .now) in
+    let old = a .answers .now in
+    let said = take (a .written) old in
+    let room = length old in
+    let e : a .command ≡ 11 = omega arith in
+    does-as (a .written) old (c .data-step .result) (commandStep script s room said (a .at) (a .l) (a .command)) _ _ (ap (commandStep script s room said (a .at) (a .l)) e)
+    (does-quiet (a .written) old (c .data-step .result) (dataStep script (a .at) (a .l)) (quiet-data script (a .at) (a .l)) (c .data-step .ensures))
 
 pub run-command-spec : {M : Type 1} → statement M
 run-command-spec =

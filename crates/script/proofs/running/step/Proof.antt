@@ -1,8 +1,15 @@
 -- `step` stops at no command and at a command that is cut short. Assumes nothing.
-use Prim.Native.Nat.{_+_, _-_, _*_, _≤_}
-use native.Mathlib.Omega.{arith}
 use Rattle.commands.proofs.Counts.{few-words}
-use Rattle.script.proofs.Going.{stays}
+use Rattle.wire.specs.Bytes.{wordAt}
+use Rattle.commands.specs.Reading.{word}
+use Rattle.script.specs.Stepping.{nextAt, commandStep, stepped}
+use Rattle.script.proofs.Ways.{step-none, step-unknown, step-cut, step-runs}
+use Rattle.script.proofs.Answers.{does-stop, does-as}
+use Rattle.art.specs.Stores.{lent}
+use native.Mathlib.Omega.{arith}
+use lib.ListN.{length, take}
+use mathlib.Core.Path.{_≡_, sym, ap, _∙_}
+use Prim.Native.Nat.{_+_}
 use borrow.Author.Needs.{needs}
 use Rattle.script.proofs.running.step.Statement.{statement}
 use Rattle.script.proofs.running.step.Tie as tie
@@ -15,9 +22,13 @@ stopped-requires c κs = search needs
 
 returns : tie.Need-returns
 returns c =
-    let s = c .before .before .before .before .before .before in
-    let p = c .stopped .ensures in
-    (stays _ _ _ (p .0) (s .pre .1), (omega arith, omega arith))
+    let a = c .before .before .before .before .before .before .args in
+    let script = a .script .now in
+    let s = lent (a .symbols .now) (a .wording .now) in
+    let old = a .answers .now in
+    let said = take (a .written) old in
+    let room = length old in
+    does-stop (a .written) old (c .stopped .result) (stepped script s room said (a .at) (a .l)) 2 (step-none script s room said (a .at) (a .l) (omega arith)) (ap (λ r. r .code) (c .stopped .ensures))
 
 word-at-requires : tie.Need-word-at-requires
 word-at-requires c κs = search needs
@@ -30,9 +41,16 @@ stopped-requires-2 c κs = search needs
 
 returns-2 : tie.Need-returns-2
 returns-2 c =
-    let s = c .before .before .before .before .before .before .before .before in
-    let p = c .stopped2 .ensures in
-    (stays _ _ _ (p .0) (s .pre .1), (omega arith, omega arith))
+    let a = c .before .before .before .before .before .before .before .before .args in
+    let script = a .script .now in
+    let s = lent (a .symbols .now) (a .wording .now) in
+    let old = a .answers .now in
+    let said = take (a .written) old in
+    let room = length old in
+    let z : a .at + 0 ≡ a .at = omega arith in
+    let n = c .before .before .word-at .result in
+    let is : word script (a .at) 0 ≡ n = ap (wordAt script) z ∙ sym (c .before .before .word-at .ensures) in
+    does-stop (a .written) old (c .stopped2 .result) (stepped script s room said (a .at) (a .l)) 1 (step-unknown script s room said (a .at) (a .l) n is (omega arith) (omega arith)) (ap (λ r. r .code) (c .stopped2 .ensures))
 
 words-of-requires : tie.Need-words-of-requires
 words-of-requires c κs = search needs
@@ -44,10 +62,19 @@ stopped-requires-3 : tie.Need-stopped-requires-3
 stopped-requires-3 c κs = search needs
 
 returns-3 : tie.Need-returns-3
+unfolding nextAt
 returns-3 c =
-    let s = c .before .before .before .before .before .before .before .before .before .before in
-    let p = c .stopped3 .ensures in
-    (stays _ _ _ (p .0) (s .pre .1), (omega arith, omega arith))
+    let a = c .before .before .before .before .before .before .before .before .before .before .args in
+    let script = a .script .now in
+    let s = lent (a .symbols .now) (a .wording .now) in
+    let old = a .answers .now in
+    let said = take (a .written) old in
+    let room = length old in
+    let z : a .at + 0 ≡ a .at = omega arith in
+    let n = c .before .before .before .before .word-at .result in
+    let is : word script (a .at) 0 ≡ n = ap (wordAt script) z ∙ sym (c .before .before .before .before .word-at .ensures) in
+    let e = c .before .before .words-of .ensures in
+    does-stop (a .written) old (c .stopped3 .result) (stepped script s room said (a .at) (a .l)) 2 (step-cut script s room said (a .at) (a .l) n is (omega arith) (omega arith) (omega arith)) (ap (λ r. r .code) (c .stopped3 .ensures))
 
 run-command-requires : tie.Need-run-command-requires
 run-command-requires c κs = search needs
@@ -56,7 +83,20 @@ same-length : tie.Need-same-length
 same-length c = search needs
 
 returns-4 : tie.Need-returns-4
-returns-4 c = search needs
+unfolding nextAt
+returns-4 c =
+    let a = c .before .before .before .before .before .before .before .before .before .before .before .before .before .args in
+    let script = a .script .now in
+    let s = lent (a .symbols .now) (a .wording .now) in
+    let old = a .answers .now in
+    let said = take (a .written) old in
+    let room = length old in
+    let z : a .at + 0 ≡ a .at = omega arith in
+    let n = c .before .before .before .before .before .before .before .word-at .result in
+    let is : word script (a .at) 0 ≡ n = ap (wordAt script) z ∙ sym (c .before .before .before .before .before .before .before .word-at .ensures) in
+    let e = c .before .before .before .before .before .words-of .ensures in
+    does-as (a .written) old (c .before .before .run-command .result) (stepped script s room said (a .at) (a .l)) (commandStep script s room said (a .at) (a .l) n) _
+    (step-runs script s room said (a .at) (a .l) n is (omega arith) (omega arith) (omega arith)) (c .before .before .run-command .ensures)
 
 pub step-spec : {M : Type 1} → statement M
 step-spec =

@@ -1,0 +1,165 @@
+-- `row_step` copies the row behind its number. Assumes nothing.
+use Rattle.wire.specs.Bytes.{put}
+use Rattle.lookup.proofs.Bytes.{part-reads}
+use Rattle.lookup.specs.Reading.{read, readNumbers, partRead, partBytes}
+use Rattle.script.proofs.Handed.{row-short}
+use Rattle.commands.specs.Reading.{word, keyAt}
+use Rattle.script.specs.Stepping.{nextAt, answerBytes, saying, rowStep}
+use Rattle.script.proofs.Answers.{answer-long, say-fits, say-stops, does-stop, does-go, behind-answer}
+use Rattle.commands.specs.Taking.{wordsOf}
+use lib.Seq.{length-take-le}
+use Rattle.art.specs.Stores.{lent}
+use native.Mathlib.Omega.{arith}
+use lib.ListN.{length, take}
+use mathlib.Core.List.{[], _∷_}
+use mathlib.Core.Path.{_≡_, sym, ap, _∙_}
+use Prim.Native.Nat.{_+_, _/_, _≤_}
+use borrow.Author.Needs.{needs}
+use Rattle.script.proofs.bytes.row_step.Statement.{statement}
+use Rattle.script.proofs.bytes.row_step.Tie as tie
+
+short : (c : tie.After-row-of-image) → length (c .row-of-image .result .now) ≤ 8192
+short c = row-short _ _ _ _ _ _ _ (c .row-of-image .ensures)
+
+numbers : (c : tie.After-row-of-image) → readNumbers (read (c .before .before .before .before .before .before .before .before .before .args .l) (lent (c .before .before .before .before .before .before .before .before .before .args .symbols .now) (c .before .before .before .before .before .before .before .before .before .args .wording .now)) (keyAt (c .before .before .before .before .before .before .before .before .before .args .script .now) (c .before .before .before .before .before .before .before .before .before .args .at)) (word (c .before .before .before .before .before .before .before .before .before .args .script .now) (c .before .before .before .before .before .before .before .before .before .args .at) 2)) ≡ c .before .row-read .result ∷ []
+unfolding keyAt
+numbers c =
+    let a = c .before .before .before .before .before .before .before .before .before .args in
+    let s = lent (a .symbols .now) (a .wording .now) in
+    let e = c .before .before .row-refusal .ensures .0 ∙ (λ i. read (a .l) s (record { 0 = c .before .before .before .before .word-at .ensures i }) (c .before .before .before .word-at2 .ensures i)) in
+    ap readNumbers (sym e) ∙ c .before .row-read .ensures
+
+bytes : (c : tie.After-row-of-image) → c .row-of-image .result .now ≡ partBytes (lent (c .before .before .before .before .before .before .before .before .before .args .symbols .now) (c .before .before .before .before .before .before .before .before .before .args .wording .now)) (partRead (c .before .before .before .before .before .before .before .before .before .args .l) (lent (c .before .before .before .before .before .before .before .before .before .args .symbols .now) (c .before .before .before .before .before .before .before .before .before .args .wording .now)) (keyAt (c .before .before .before .before .before .before .before .before .before .args .script .now) (c .before .before .before .before .before .before .before .before .before .args .at)) (word (c .before .before .before .before .before .before .before .before .before .args .script .now) (c .before .before .before .before .before .before .before .before .before .args .at) 2))
+unfolding keyAt
+bytes c =
+    let a = c .before .before .before .before .before .before .before .before .before .args in
+    let s = lent (a .symbols .now) (a .wording .now) in
+    part-reads (a .symbols) (a .wording) _ (c .row-of-image .result) (c .row-of-image .ensures)
+    ∙ (λ i. partBytes s (partRead (a .l) s (record { 0 = c .before .before .before .before .word-at .ensures i }) (c .before .before .before .word-at2 .ensures i)))
+
+add-word-at : tie.Need-add-word-at
+add-word-at c = search needs
+
+word-at-requires : tie.Need-word-at-requires
+word-at-requires c κs = search needs
+
+add-word-at-2 : tie.Need-add-word-at-2
+add-word-at-2 c = search needs
+
+word-at-requires-2 : tie.Need-word-at-requires-2
+word-at-requires-2 c κs = search needs
+
+row-refusal-requires : tie.Need-row-refusal-requires
+row-refusal-requires c κs = search needs
+
+row-read-requires : tie.Need-row-read-requires
+row-read-requires c κs = search needs
+
+row-of-image-requires : tie.Need-row-of-image-requires
+row-of-image-requires c κs = search needs
+
+sub-if1 : tie.Need-sub-if1
+sub-if1 c = search needs
+
+sub-if1-2 : tie.Need-sub-if1-2
+sub-if1-2 c = search needs
+
+add-if1 : tie.Need-add-if1
+add-if1 c = search needs
+
+stopped-requires : tie.Need-stopped-requires
+stopped-requires c κs = search needs
+
+returns : tie.Need-returns
+unfolding rowStep
+returns c =
+    let a = c .before .before .before .before .before .before .before .before .before .before .before .args in
+    let script = a .script .now in
+    let s = lent (a .symbols .now) (a .wording .now) in
+    let old = a .answers .now in
+    let said = take (a .written) old in
+    let so : length said ≡ a .written = length-take-le (a .written) old (omega arith) in
+    let key = keyAt script (a .at) in
+    let row = word script (a .at) 2 in
+    let ns = readNumbers (read (a .l) s key row) in
+    let part = partBytes s (partRead (a .l) s key row) in
+    let said-is = answerBytes ns part in
+    let one : length ns ≡ 1 = ap length (numbers (c .before .before)) in
+    let same : length (c .before .before .row-of-image .result .now) ≡ length part = ap length (bytes (c .before .before)) in
+    let long = answer-long ns part in
+    does-stop (a .written) old (c .stopped .result) (saying (length old) said (a .l) (nextAt (a .at) 8) said-is) 3
+    (say-stops (length old) said (a .l) (nextAt (a .at) 8) said-is (omega arith)) (ap (λ r. r .code) (c .stopped .ensures))
+
+cast-write-number : tie.Need-cast-write-number
+cast-write-number c = let n = short (c .before .before) in omega arith
+
+write-number-requires : tie.Need-write-number-requires
+write-number-requires c κs = let n = short (c .before .before) in (omega arith, omega arith)
+
+add-put-bytes : tie.Need-add-put-bytes
+add-put-bytes c = search needs
+
+put-bytes-requires : tie.Need-put-bytes-requires
+put-bytes-requires c κs = search needs
+
+add-t14 : tie.Need-add-t14
+add-t14 c = search needs
+
+add-t18 : tie.Need-add-t18
+add-t18 c = search needs
+
+add-t16 : tie.Need-add-t16
+add-t16 c = search needs
+
+same-length : tie.Need-same-length
+same-length c = search needs
+
+returns-2 : tie.Need-returns-2
+unfolding rowStep nextAt wordsOf
+returns-2 c =
+    let a = c .before .before .before .before .before .before .before .before .before .before .before .before .before .before .before .before .before .before .args in
+    let script = a .script .now in
+    let s = lent (a .symbols .now) (a .wording .now) in
+    let old = a .answers .now in
+    let said = take (a .written) old in
+    let so : length said ≡ a .written = length-take-le (a .written) old (omega arith) in
+    let key = keyAt script (a .at) in
+    let row = word script (a .at) 2 in
+    let ns = readNumbers (read (a .l) s key row) in
+    let part = partBytes s (partRead (a .l) s key row) in
+    let said-is = answerBytes ns part in
+    let one : length ns ≡ 1 = ap length (numbers (c .before .before .before .before .before .before .before .before .before)) in
+    let same : length (c .before .before .before .before .before .before .before .before .before .row-of-image .result .now) ≡ length part = ap length (bytes (c .before .before .before .before .before .before .before .before .before)) in
+    let long = answer-long ns part in
+    let to : a .written + 8 + length (c .before .before .before .before .before .before .before .before .before .row-of-image .result .now) ≡ a .written + length said-is = omega arith in
+    does-go (a .written) old _ (saying (length old) said (a .l) (a .at + 12) said-is) _ (a .l) (a .at + 12) said-is
+    (say-fits (length old) said (a .l) (a .at + 12) said-is (omega arith))
+    (λ i. record { layout = a .l; next = a .at + 12; written = to i; code = 0 })
+    (behind-answer old (a .written) ns part (c .before .before .before .before .before .before .before .before .before .before .row-read .result) (length (c .before .before .before .before .before .before .before .before .before .row-of-image .result .now) / 4) (numbers (c .before .before .before .before .before .before .before .before .before)) (ap (λ k. k / 4) same) (omega arith)
+    (c .before .before .before .before .before .before .write-number .ensures) (c .before .before .put-bytes .ensures ∙ ap (put _ (a .written + 8)) (bytes (c .before .before .before .before .before .before .before .before .before))))
+
+pub row-step-spec : {M : Type 1} → statement M
+row-step-spec =
+    tie.close
+    (tie.spec
+    add-word-at
+    word-at-requires
+    add-word-at-2
+    word-at-requires-2
+    row-refusal-requires
+    row-read-requires
+    row-of-image-requires
+    sub-if1
+    sub-if1-2
+    add-if1
+    stopped-requires
+    returns
+    cast-write-number
+    write-number-requires
+    add-put-bytes
+    put-bytes-requires
+    add-t14
+    add-t18
+    add-t16
+    same-length
+    returns-2)
