@@ -3,5 +3,8 @@ pub mod Checks
 pub mod Composing
 pub mod Going
 pub mod Handed
+pub mod Onward
 pub mod Soundness
+pub mod Table
+pub mod Theorems
 pub mod Ways
