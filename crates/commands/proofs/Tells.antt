@@ -1,8 +1,8 @@
 -- What a command's answer tells. Assumes nothing.
 use Prim.Native.Nat.{ℕ}
-use mathlib.Core.Path.{_≡_, refl, sym, subst}
 use mathlib.Core.Bool.{true}
 use mathlib.Core.List.{List}
+use mathlib.Core.Path.{_≡_, refl, sym, subst}
 use lib.Dec.{T}
 use lib.Ieee.{Float, nan, inf, fin, isNan}
 use Rattle.art.specs.Stores.{Stores}

@@ -1,15 +1,15 @@
 -- The commands whose answer is words alone: the numbers of the answer, and the layout that goes along.
 -- Assumes nothing.
 use Prim.Native.Nat.{ℕ}
-use mathlib.Core.Path.{_≡_}
 use mathlib.Core.List.{List, [], _∷_}
+use mathlib.Core.Path.{_≡_}
 use lib.ListN.{getD}
 use Rattle.art.specs.Stores.{Stores}
 use Rattle.records.specs.Operations.{opened, openedNumbers, pageSized, sizedNumbers}
 use Rattle.records.specs.declared.layout.Layout.{Layout}
 use Rattle.rules.specs.Operations.{asked, askedNumbers, offered, offeredNumbers, withdrawn, withdrawnNumbers}
-use Rattle.lookup.specs.Looking.{looked, lookedNumbers}
 use Rattle.coords.specs.Coordinates.{located, locatedNumbers}
+use Rattle.lookup.specs.Looking.{looked, lookedNumbers}
 use Rattle.wire.specs.Saying.{Says}
 use Rattle.commands.specs.Reading.{word, configAt, pageAt, sizeAt, keyAt, imageAt, requestOf}
 use Rattle.commands.specs.declared.Outcome.{Outcome}

@@ -1,16 +1,16 @@
 -- The bytes of an answer and of the end, and when an answer fits. Assumes nothing.
 use Prim.Native.Nat.{ℕ, _+_, _*_, _/_, _≤_, _<_}
 use native.Mathlib.Omega.{arith}
-use mathlib.Core.Path.{_≡_, sym, ap, _∙_, subst}
 use mathlib.Core.Bool.{Bool, cond}
 use mathlib.Core.List.{List, [], _∷_, _++_, append-nil}
+use mathlib.Core.Path.{_≡_, sym, ap, _∙_, subst}
 use lib.ListN.{length, length-append}
 use borrow.Author.Tests.{le-leb, lt-leb}
 use Rattle.records.specs.declared.layout.Layout.{Layout}
 use Rattle.wire.specs.Bytes.{wordsBytes, put}
 use Rattle.wire.proofs.Putting.{words-long, put-none, put-front, put-behind}
-use Rattle.script.specs.Stepping.{Stepped, GoesOn, Stops, answerBytes, endBytes, saying}
 use Rattle.script.specs.Doing.{Leaves, saidBy, Does}
+use Rattle.script.specs.Stepping.{Stepped, GoesOn, Stops, answerBytes, endBytes, saying}
 use Rattle.script.specs.declared.steps.Step.{Step}
 
 pub answer-plain : (ns : List ℕ) → answerBytes ns [] ≡ wordsBytes (length ns ∷ ns)

@@ -1,13 +1,13 @@
 -- Check rows of a part. Assumes nothing.
 use Prim.Native.Nat.{ℕ}
-use mathlib.Core.Path.{_≡_, sym, _∙_, subst}
 use mathlib.Core.Bool.{Bool, true}
 use mathlib.Core.List.{List, []}
+use mathlib.Core.Path.{_≡_, sym, _∙_, subst}
 use lib.Dec.{T}
 use Rattle.art.specs.Stores.{Stores}
 use Rattle.records.specs.declared.layout.Layout.{Layout}
-use Rattle.script.specs.Stepping.{checkPast, checkNumbers}
 use Rattle.script.specs.Doing.{Checks}
+use Rattle.script.specs.Stepping.{checkPast, checkNumbers}
 use Rattle.script.specs.declared.checking.Checking.{Checking}
 
 -- a part that runs past its source has no numbers

@@ -1,9 +1,9 @@
 -- Compose rows into a part of the answers that is lent: what it answers and writes hangs on the part's length alone. Assumes nothing.
 use Prim.Native.Nat.{ℕ, _+_, _-_, _≤_}
 use native.Mathlib.Omega.{arith}
-use mathlib.Core.Path.{_≡_, refl, sym, ap, _∙_}
 use mathlib.Core.List.{List}
 use mathlib.Core.Option.{Option, none, some}
+use mathlib.Core.Path.{_≡_, refl, sym, ap, _∙_}
 use lib.ListN.{length, replicate, length-replicate}
 use borrow.Rule.Slice.PartMut.{putMid, midOf, mid-len, put-same}
 use Rattle.art.specs.Stores.{Stores}
@@ -13,13 +13,13 @@ use Rattle.records.specs.declared.refusal.Refusal.{Refusal}
 use Rattle.paint.specs.Pictures.{band}
 use Rattle.paint.specs.declared.background.Background.{Background}
 use Rattle.compose.specs.Composing.{composeAnswer, composeBuffer, bandRefusal, composedAnswer, composedBuffer, composedNumbers}
-use Rattle.compose.specs.declared.image_exporter.Composed.{Composed}
 use Rattle.compose.specs.declared.image_exporter.Composed.the-variants.{Done, Refused}
+use Rattle.compose.specs.declared.image_exporter.Composed.{Composed}
 use Rattle.compose.proofs.Theorems.{compose-long}
 use Rattle.wire.specs.Bytes.{put}
 use Rattle.wire.proofs.Putting.{put-none, lent-put}
-use Rattle.script.specs.Stepping.{composedBytes}
 use Rattle.script.specs.Doing.{composedSize}
+use Rattle.script.specs.Stepping.{composedBytes}
 
 pub one-number : (o : Composed) → length (composedNumbers o) ≡ 1
 one-number Done = refl

@@ -1,8 +1,8 @@
 -- The run so far: what is left to say gives the answers in all. Assumes nothing.
 use Prim.Native.Nat.{ℕ, zero, suc, _+_, _≤_, _<_}
 use native.Mathlib.Omega.{arith}
-use mathlib.Core.Path.{_≡_, refl, sym, ap, _∙_, subst}
 use mathlib.Core.List.{List, [], _++_}
+use mathlib.Core.Path.{_≡_, refl, sym, ap, _∙_, subst}
 use lib.ListN.{length, take, length-append}
 use borrow.Author.Tests.{lt-ltb, le-ltb}
 use Rattle.art.specs.Stores.{Stores}
@@ -10,9 +10,9 @@ use Rattle.records.specs.Settings.{blankConfig, emptyLayout}
 use Rattle.records.specs.declared.layout.Layout.{Layout}
 use Rattle.wire.specs.Bytes.{put}
 use Rattle.wire.proofs.Putting.{put-none, put-long, put-take, put-behind}
-use Rattle.script.specs.Stepping.{Stepped, GoesOn, Stops, endBytes, stepped}
-use Rattle.script.specs.Running.{ranFrom, ran}
 use Rattle.script.specs.Doing.{Does}
+use Rattle.script.specs.Running.{ranFrom, ran}
+use Rattle.script.specs.Stepping.{Stepped, GoesOn, Stops, endBytes, stepped}
 use Rattle.script.specs.declared.steps.Step.{Step}
 use Rattle.script.proofs.Answers.{end-long}
 use Rattle.script.proofs.Soundness.{Sound, stepped-sound}
@@ -76,14 +76,17 @@ module _ (script : List ℕ) (s : Stores) (old : List ℕ) where
         (omega arith, end-put code q ∙ ap (put old 0) (sym e))
 
     -- the whole script was run
-    all-run : (turns : ℕ) → length script ≤ at → ranFrom turns script s (length old) (g .said) at l ≡ g .said ++ endBytes 0 at
+    all-run : (turns : ℕ) → length script ≤ at → ranFrom turns script s (length old) (g .said) at l ≡ g .said ++ endBytes 0 (length script)
     unfolding ranFrom
     all-run zero h = refl
     all-run (suc turns) h = rw (le-ltb at (length script) h)
 
     pub ended : {z : List ℕ} → length script ≤ at → z ≡ put now written (endBytes 0 at)
         → (written + 12 ≡ length (ran script s (length old))) × (z ≡ put old 0 (ran script s (length old)))
-    ended h q = ended-by 0 (sym (g .left) ∙ all-run (g .turns) h) q
+    ended h q =
+        let within = g .inside in
+        let e : length script ≡ at = omega arith in
+        ended-by 0 (sym (g .left) ∙ all-run (g .turns) h ∙ ap (λ (k : ℕ). g .said ++ endBytes 0 k) e) q
 
     module _ (h : at < length script) where
       stops-at : (turns code : ℕ) → length script ≤ at + turns → stepped script s (length old) (g .said) at l ≡ Stops code

@@ -1,10 +1,10 @@
 -- The layout that a command goes on with. Assumes nothing.
 use Prim.Native.Nat.{ℕ, zero, suc, _+_, _*_}
-use mathlib.Core.Path.{_≡_, refl, sym, subst}
 use mathlib.Core.Bool.{Bool, true, false, cond}
 use mathlib.Core.List.{List, [], _∷_, _++_}
-use lib.ListN.{length}
+use mathlib.Core.Path.{_≡_, refl, sym, subst}
 use lib.Dec.{leb, ltb}
+use lib.ListN.{length}
 use Rattle.art.specs.Stores.{Stores}
 use Rattle.records.specs.Operations.{opened}
 use Rattle.records.specs.declared.layout.Layout.{Layout}

@@ -1,11 +1,11 @@
 -- A command that goes on does so further on in the script, and leaves room for the end; one that stops has a code. Assumes nothing.
 use Prim.Native.Nat.{ℕ, zero, suc, _+_, _*_, _≤_, _<_}
 use native.Mathlib.Omega.{arith}
-use mathlib.Core.Path.{_≡_, refl}
 use mathlib.Core.Bool.{Bool, true, false, cond}
 use mathlib.Core.List.{List, []}
-use lib.ListN.{length}
+use mathlib.Core.Path.{_≡_, refl}
 use lib.Dec.{leb, ltb}
+use lib.ListN.{length}
 use borrow.Author.Tests.{leb-true, ltb-false}
 use Rattle.art.specs.Stores.{Stores}
 use Rattle.records.specs.declared.layout.Layout.{Layout}

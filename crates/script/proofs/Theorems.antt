@@ -2,25 +2,25 @@
 -- Assumes nothing.
 use Prim.Native.Nat.{ℕ, zero, suc, _+_, _≤_, _<_}
 use native.Mathlib.Omega.{arith}
-use mathlib.Core.Path.{_≡_, sym, ap, _∙_, subst}
 use mathlib.Core.Bool.{true}
 use mathlib.Core.List.{List, [], _++_}
+use mathlib.Core.Path.{_≡_, sym, ap, _∙_, subst}
 use lib.ListN.{length, length-append}
 use borrow.Author.Tests.{lt-ltb, le-ltb}
 use Rattle.art.specs.Stores.{Stores}
-use Rattle.records.specs.Settings.{inBounds}
 use Rattle.records.specs.Operations.{opened}
+use Rattle.records.specs.Settings.{inBounds}
 use Rattle.records.specs.declared.layout.Layout.{Layout}
 use Rattle.records.specs.declared.texture_packer_config.Config.{Config}
 use Rattle.rules.specs.Story.{Call, layoutAfter, imagesAfter}
 use Rattle.rules.specs.declared.placing.Art.{Art}
 use Rattle.rules.proofs.Story.{Demand3}
 use Rattle.rules.proofs.Theorems.{demand-3-opened}
-use Rattle.script.specs.Stepping.{GoesOn, stepped}
-use Rattle.script.specs.Running.{ranFrom, ran}
 use Rattle.script.specs.Passing.{Passes, Start, Next, Since, Opened, Then}
-use Rattle.script.proofs.Soundness.{Sound, stepped-sound}
+use Rattle.script.specs.Running.{ranFrom, ran}
+use Rattle.script.specs.Stepping.{GoesOn, stepped}
 use Rattle.script.proofs.Onward.{open-opens, others-call, calls-append}
+use Rattle.script.proofs.Soundness.{Sound, stepped-sound}
 
 module _ (script : List ℕ) (s : Stores) (room : ℕ) where
   -- ## the run is the fold of the steps: what is answered in all is what is answered from any state on that the run passes
@@ -53,8 +53,7 @@ module _ (script : List ℕ) (s : Stores) (room : ℕ) where
       let k = passed r p in
       goes-on (k .turns) said at l m next bytes (k .fits) (k .enough) (k .all) h e
 
-  -- ## "open a layout, make any sequence of calls, each on the state the last one returned": demand 3 of every layout that a run passes since an open in
-  -- bounds, as long as there is no `set`
+  -- ## demand 3 of every layout that a run passes since an open in bounds, with no `set` after it: calls, each on the layout that the last one returned
 
   pub since-calls : (c : Config) {said : List ℕ} {at : ℕ} {l : Layout} → Since script s room c said at l
       → (calls : List Call) × (l ≡ layoutAfter (opened c .layout) calls)

@@ -1,22 +1,22 @@
 -- When a command goes on, and when it stops. Assumes nothing.
 use Prim.Native.Nat.{ℕ, zero, suc, _+_, _*_, _/_, _≤_, _<_}
 use native.Mathlib.Omega.{arith}
-use mathlib.Core.Path.{_≡_, refl, sym, ap, _∙_, subst}
 use mathlib.Core.Bool.{Bool, true, false, cond}
 use mathlib.Core.List.{List, [], _∷_}
-use lib.ListN.{length}
+use mathlib.Core.Path.{_≡_, refl, sym, ap, _∙_, subst}
 use lib.Dec.{ltb}
+use lib.ListN.{length}
 use borrow.Author.Tests.{le-leb, lt-leb, lt-ltb, le-ltb}
 use Rattle.art.specs.Stores.{Stores}
 use Rattle.records.specs.declared.layout.Layout.{Layout}
 use Rattle.compose.specs.Composing.{composedNumbers}
 use Rattle.compose.specs.declared.image_exporter.Composed.{Composed}
 use Rattle.wire.specs.Bytes.{wordsBytes, put}
+use Rattle.wire.specs.Fields.{isField, layoutWith}
 use Rattle.commands.specs.Reading.{word, pageAt, backgroundAt}
 use Rattle.commands.specs.Telling.{Told, told}
-use Rattle.wire.specs.Fields.{isField, layoutWith}
-use Rattle.script.specs.Stepping.{GoesOn, Stops, answerBytes, nextAt, saying, telling, composedBytes, composeAnswer, composeBytes, composeStep, checkSource, checkPast, checkNumbers, checkStep, setStep, dataStep, commandStep, stepped}
 use Rattle.script.specs.Doing.{composedSize, saidBy}
+use Rattle.script.specs.Stepping.{GoesOn, Stops, answerBytes, nextAt, saying, telling, composedBytes, composeAnswer, composeBytes, composeStep, checkSource, checkPast, checkNumbers, checkStep, setStep, dataStep, commandStep, stepped}
 use Rattle.script.proofs.Answers.{answer-long, front-answer}
 use Rattle.script.proofs.Composing.{one-number, size-at-most, composed-long}
 

@@ -1,8 +1,8 @@
 -- The states that a run passes: what is said so far, the place in the script, and the layout.
 -- Assumes nothing.
 use Prim.Native.Nat.{ℕ, _<_}
-use mathlib.Core.Path.{_≡_}
 use mathlib.Core.List.{List, [], _++_}
+use mathlib.Core.Path.{_≡_}
 use lib.ListN.{length}
 use Rattle.art.specs.Stores.{Stores}
 use Rattle.records.specs.Settings.{blankConfig, emptyLayout}

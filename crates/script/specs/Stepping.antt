@@ -3,15 +3,15 @@
 use Prim.Native.Nat.{ℕ, _+_, _*_, _/_, _%_}
 use mathlib.Core.Bool.{Bool, cond}
 use mathlib.Core.List.{List, [], _∷_, _++_}
-use lib.ListN.{length, getD, take, drop, replicate}
 use lib.Dec.{leb, ltb}
+use lib.ListN.{length, getD, take, drop, replicate}
 use Rattle.art.specs.Stores.{Stores}
 use Rattle.records.specs.declared.layout.Layout.{Layout}
 use Rattle.lookup.specs.Reading.{read, readNumbers, partRead, partBytes}
-use Rattle.compose.specs.Composing.{composedAnswer, composedBuffer, composedNumbers}
 use Rattle.compose.specs.Checking.{checkedRows, checkedNumbers}
-use Rattle.compose.specs.declared.image_exporter.Composed.{Composed}
+use Rattle.compose.specs.Composing.{composedAnswer, composedBuffer, composedNumbers}
 use Rattle.compose.specs.declared.image_exporter.Composed.the-variants.{Done, Refused}
+use Rattle.compose.specs.declared.image_exporter.Composed.{Composed}
 use Rattle.wire.specs.Bytes.{wordsBytes}
 use Rattle.wire.specs.Fields.{isField, layoutWith}
 use Rattle.commands.specs.Reading.{word, pageAt, keyAt, backgroundAt}

@@ -5,8 +5,8 @@ use Prim.Native.Nat.{ℕ, zero, suc, _+_}
 use mathlib.Core.List.{List, [], _∷_, _++_}
 use lib.ListN.{getD}
 use Rattle.art.specs.Stores.{Stores, lent}
-use Rattle.records.specs.Settings.{blankConfig, blankRecord, emptyLayout}
 use Rattle.records.specs.Samples.{recordNumbers, configNumbers}
+use Rattle.records.specs.Settings.{blankConfig, blankRecord, emptyLayout}
 use Rattle.records.specs.declared.layout.Layout.{Layout}
 use Rattle.wire.specs.Bytes.{wordsBytes}
 use Rattle.wire.specs.Fields.{layoutWith}

@@ -2,18 +2,18 @@
 -- Assumes nothing.
 use Prim.Native.Nat.{ℕ, _%_}
 use mathlib.Core.Bool.{Bool, cond, not, _&&_, _||_}
-use lib.ListN.{getD, set}
 use lib.Dec.{leb, ltb, eqb}
+use lib.ListN.{getD, set}
 use Rattle.geometry.specs.declared.rect.Rect.{Rect}
-use Rattle.geometry.specs.declared.spot.Turn.{Turn}
 use Rattle.geometry.specs.declared.spot.Turn.the-variants.{Upright, Turned}
-use Rattle.art.specs.declared.memory_rgba8_texture.Store.{Store}
+use Rattle.geometry.specs.declared.spot.Turn.{Turn}
 use Rattle.art.specs.declared.memory_rgba8_texture.Store.the-variants.{Symbols, Wording}
+use Rattle.art.specs.declared.memory_rgba8_texture.Store.{Store}
 use Rattle.records.specs.Settings.{blankRecord}
-use Rattle.records.specs.declared.texture_packer_config.Config.{Config}
 use Rattle.records.specs.declared.frame.Record.{Record}
 use Rattle.records.specs.declared.frame.Source.{Source}
 use Rattle.records.specs.declared.layout.Layout.{Layout}
+use Rattle.records.specs.declared.texture_packer_config.Config.{Config}
 
 -- a switch is off where its word is 0 and on otherwise
 unfoldable pub isOn : ℕ → Bool

@@ -1,10 +1,10 @@
 -- `ask` asks of its words. Assumes nothing.
+use mathlib.Core.Path.{_∙_, subst}
+use borrow.Author.Needs.{needs}
 use Rattle.rules.specs.Operations.{asked, askedNumbers}
 use Rattle.wire.specs.Saying.{Says}
 use Rattle.commands.specs.Reading.{pageAt, sizeAt}
 use Rattle.commands.specs.Telling.{askTold}
-use mathlib.Core.Path.{_∙_, subst}
-use borrow.Author.Needs.{needs}
 use Rattle.commands.proofs.ask.Statement.{statement}
 use Rattle.commands.proofs.ask.Tie as tie
 

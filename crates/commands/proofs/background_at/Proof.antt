@@ -1,13 +1,13 @@
 -- `background_at` reads the four words. Assumes nothing.
-use native.Mathlib.Omega.{arith}
 use Prim.Native.Nat.{_+_}
-use Rattle.paint.specs.declared.background.Background.the-variants.{Colour}
-use Rattle.wire.specs.Fields.{isOn}
-use Rattle.wire.specs.Bytes.{wordAt}
-use Rattle.commands.specs.Reading.{backgroundAt, colourOf, thresholdOf}
-use borrow.Author.Tests.{eq-eqb, ne-eqb}
+use native.Mathlib.Omega.{arith}
 use mathlib.Core.Path.{_≡_, sym, ap, _∙_}
 use borrow.Author.Needs.{needs}
+use borrow.Author.Tests.{eq-eqb, ne-eqb}
+use Rattle.paint.specs.declared.background.Background.the-variants.{Colour}
+use Rattle.wire.specs.Bytes.{wordAt}
+use Rattle.wire.specs.Fields.{isOn}
+use Rattle.commands.specs.Reading.{backgroundAt, colourOf, thresholdOf}
 use Rattle.commands.proofs.background_at.Statement.{statement}
 use Rattle.commands.proofs.background_at.Tie as tie
 

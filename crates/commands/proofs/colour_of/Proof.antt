@@ -1,9 +1,9 @@
 -- `colour_of` is the definition. Assumes nothing.
-use Rattle.commands.specs.Reading.{colourOf}
-use Rattle.wire.specs.Bytes.{wordBytes}
-use Rattle.art.specs.Stores.{pixelFrom}
 use mathlib.Core.Path.{refl}
 use borrow.Author.Needs.{needs}
+use Rattle.art.specs.Stores.{pixelFrom}
+use Rattle.wire.specs.Bytes.{wordBytes}
+use Rattle.commands.specs.Reading.{colourOf}
 use Rattle.commands.proofs.colour_of.Statement.{statement}
 use Rattle.commands.proofs.colour_of.Tie as tie
 

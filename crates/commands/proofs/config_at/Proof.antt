@@ -1,8 +1,8 @@
 -- `config_at` reads the eleven words. Assumes nothing.
-use Rattle.wire.specs.Fields.{isOn}
-use Rattle.commands.specs.Reading.{configAt}
 use mathlib.Core.Path.{ap, _∙_}
 use borrow.Author.Needs.{needs}
+use Rattle.wire.specs.Fields.{isOn}
+use Rattle.commands.specs.Reading.{configAt}
 use Rattle.commands.proofs.config_at.Statement.{statement}
 use Rattle.commands.proofs.config_at.Tie as tie
 

@@ -1,10 +1,10 @@
 -- `coordinates` asks of its words. Assumes nothing.
+use mathlib.Core.Path.{_∙_, subst}
+use borrow.Author.Needs.{needs}
 use Rattle.coords.specs.Coordinates.{located, locatedNumbers}
 use Rattle.wire.specs.Saying.{Says}
 use Rattle.commands.specs.Reading.{keyAt, requestOf}
 use Rattle.commands.specs.Telling.{locateTold}
-use mathlib.Core.Path.{_∙_, subst}
-use borrow.Author.Needs.{needs}
 use Rattle.commands.proofs.coordinates.Statement.{statement}
 use Rattle.commands.proofs.coordinates.Tie as tie
 

@@ -1,12 +1,12 @@
 -- `first_six` has the words of each command. Assumes nothing.
-use Rattle.commands.proofs.Tells.{unchanged-tells, command-tells}
-use Rattle.commands.specs.Telling.{told, askTold, sizeTold, pixelTold}
-use Rattle.art.specs.Stores.{lent}
-use mathlib.Core.Path.{refl}
 use native.Mathlib.Omega.{arith}
-use Rattle.commands.specs.Taking.{wordsOf}
-use Rattle.commands.proofs.Counts.{there-is}
+use mathlib.Core.Path.{refl}
 use borrow.Author.Needs.{needs}
+use Rattle.art.specs.Stores.{lent}
+use Rattle.commands.specs.Taking.{wordsOf}
+use Rattle.commands.specs.Telling.{told, askTold, sizeTold, pixelTold}
+use Rattle.commands.proofs.Counts.{there-is}
+use Rattle.commands.proofs.Tells.{unchanged-tells, command-tells}
 use Rattle.commands.proofs.first_six.Statement.{statement}
 use Rattle.commands.proofs.first_six.Tie as tie
 

@@ -1,15 +1,11 @@
 -- `number_of_bits` makes no NaN of its bits. Assumes nothing.
-use mathlib.Core.Bool.{true}
-use lib.Ieee.{nan}
-use Rattle.commands.proofs.Tells.{one-nan}
-use lib.Ieee.Bits.{nanBits-is}
-use lib.Ieee.{div, ofBits}
+use mathlib.Core.Bool.{false, not, true}
 use mathlib.Core.Path.{_≡_, refl, sym, _∙_, subst}
-use mathlib.Core.Path.{_≡_, sym, subst}
-use mathlib.Core.Bool.{false, not}
 use lib.Dec.{T}
-use lib.Ieee.{nanBits, binary32}
+use lib.Ieee.Bits.{nanBits-is}
+use lib.Ieee.{div, ofBits, nanBits, binary32, nan}
 use borrow.Author.Needs.{needs}
+use Rattle.commands.proofs.Tells.{one-nan}
 use Rattle.commands.proofs.number_of_bits.Statement.{statement}
 use Rattle.commands.proofs.number_of_bits.Tie as tie
 

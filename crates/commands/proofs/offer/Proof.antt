@@ -1,12 +1,12 @@
 -- `offer` offers the image of its words. Assumes nothing.
+use mathlib.Core.Path.{ap, _∙_, subst}
+use borrow.Author.Needs.{needs}
+use Rattle.art.specs.Stores.{lent}
 use Rattle.rules.specs.Operations.{offered, offeredNumbers}
 use Rattle.wire.specs.Fields.{storeOf}
-use Rattle.art.specs.Stores.{lent}
 use Rattle.wire.specs.Saying.{Says}
 use Rattle.commands.specs.Reading.{keyAt, imageAt}
 use Rattle.commands.specs.Telling.{offerTold}
-use mathlib.Core.Path.{ap, _∙_, subst}
-use borrow.Author.Needs.{needs}
 use Rattle.commands.proofs.offer.Statement.{statement}
 use Rattle.commands.proofs.offer.Tie as tie
 

@@ -1,9 +1,9 @@
 -- `open` opens with the configuration of its words. Assumes nothing.
+use mathlib.Core.Path.{ap, _∙_, subst}
+use borrow.Author.Needs.{needs}
 use Rattle.records.specs.Operations.{opened, openedNumbers}
 use Rattle.wire.specs.Saying.{Says}
 use Rattle.commands.specs.Telling.{openTold}
-use mathlib.Core.Path.{ap, _∙_, subst}
-use borrow.Author.Needs.{needs}
 use Rattle.commands.proofs.open.Statement.{statement}
 use Rattle.commands.proofs.open.Tie as tie
 

@@ -1,10 +1,10 @@
 -- `page_size` asks of its word. Assumes nothing.
+use mathlib.Core.Path.{_∙_, subst}
+use borrow.Author.Needs.{needs}
 use Rattle.records.specs.Operations.{pageSized, sizedNumbers}
 use Rattle.wire.specs.Saying.{Says}
 use Rattle.commands.specs.Reading.{pageAt}
 use Rattle.commands.specs.Telling.{sizeTold}
-use mathlib.Core.Path.{_∙_, subst}
-use borrow.Author.Needs.{needs}
 use Rattle.commands.proofs.page_size.Statement.{statement}
 use Rattle.commands.proofs.page_size.Tie as tie
 

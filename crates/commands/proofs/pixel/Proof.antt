@@ -1,11 +1,11 @@
 -- `pixel` asks of its words. Assumes nothing.
-use Rattle.lookup.specs.Looking.{looked, lookedNumbers}
+use mathlib.Core.Path.{_∙_, subst}
+use borrow.Author.Needs.{needs}
 use Rattle.art.specs.Stores.{lent}
+use Rattle.lookup.specs.Looking.{looked, lookedNumbers}
 use Rattle.wire.specs.Saying.{Says}
 use Rattle.commands.specs.Reading.{pageAt}
 use Rattle.commands.specs.Telling.{pixelTold}
-use mathlib.Core.Path.{_∙_, subst}
-use borrow.Author.Needs.{needs}
 use Rattle.commands.proofs.pixel.Statement.{statement}
 use Rattle.commands.proofs.pixel.Tie as tie
 

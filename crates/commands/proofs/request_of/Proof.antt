@@ -1,9 +1,9 @@
 -- `request_of` gives one of the three. Assumes nothing.
-use Rattle.coords.specs.declared.locate.Request.the-variants.{Inset}
-use Rattle.commands.specs.Reading.{requestOf}
-use borrow.Author.Tests.{eq-eqb, ne-eqb}
 use mathlib.Core.Path.{ap}
 use borrow.Author.Needs.{needs}
+use borrow.Author.Tests.{eq-eqb, ne-eqb}
+use Rattle.coords.specs.declared.locate.Request.the-variants.{Inset}
+use Rattle.commands.specs.Reading.{requestOf}
 use Rattle.commands.proofs.request_of.Statement.{statement}
 use Rattle.commands.proofs.request_of.Tie as tie
 

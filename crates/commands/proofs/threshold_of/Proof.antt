@@ -1,7 +1,7 @@
 -- `threshold_of` gives the one or the other. Assumes nothing.
-use Rattle.commands.specs.Reading.{thresholdOf}
-use borrow.Author.Tests.{lt-ltb, le-ltb}
 use borrow.Author.Needs.{needs}
+use borrow.Author.Tests.{lt-ltb, le-ltb}
+use Rattle.commands.specs.Reading.{thresholdOf}
 use Rattle.commands.proofs.threshold_of.Statement.{statement}
 use Rattle.commands.proofs.threshold_of.Tie as tie
 

@@ -1,9 +1,9 @@
 -- `withdraw` withdraws. Assumes nothing.
+use mathlib.Core.Path.{ap, subst}
+use borrow.Author.Needs.{needs}
 use Rattle.rules.specs.Operations.{withdrawnNumbers}
 use Rattle.wire.specs.Saying.{Says}
 use Rattle.commands.specs.Telling.{withdrawTold}
-use mathlib.Core.Path.{ap, subst}
-use borrow.Author.Needs.{needs}
 use Rattle.commands.proofs.withdraw.Statement.{statement}
 use Rattle.commands.proofs.withdraw.Tie as tie
 

@@ -1,13 +1,13 @@
 -- `run` says nothing where the end does not fit. Assumes nothing.
-use Rattle.script.specs.Running.{ran}
-use Rattle.wire.proofs.Putting.{put-none}
-use Rattle.wire.specs.Bytes.{put}
-use borrow.Author.Tests.{lt-ltb}
-use Rattle.art.specs.Stores.{lent}
-use lib.ListN.{length}
 use mathlib.Core.List.{[]}
 use mathlib.Core.Path.{_≡_, sym, ap, _∙_}
+use lib.ListN.{length}
 use borrow.Author.Needs.{needs}
+use borrow.Author.Tests.{lt-ltb}
+use Rattle.art.specs.Stores.{lent}
+use Rattle.wire.specs.Bytes.{put}
+use Rattle.wire.proofs.Putting.{put-none}
+use Rattle.script.specs.Running.{ran}
 use Rattle.script.proofs.run.Statement.{statement}
 use Rattle.script.proofs.run.Tie as tie
 

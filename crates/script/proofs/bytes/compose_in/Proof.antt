@@ -1,15 +1,14 @@
 -- `compose_in` lends the part, and a refusal gives it back as it was. Assumes nothing.
-use Rattle.script.specs.Stepping.{composedBytes}
-use Rattle.wire.specs.Bytes.{put}
-use Rattle.script.proofs.Composing.{lent-answer, lent-bytes}
-use Rattle.script.specs.Stepping.{composeAnswer, composeBytes}
-use Rattle.commands.specs.Reading.{pageAt, backgroundAt, word}
-use Rattle.compose.specs.Composing.{composedAnswer, composedBuffer}
+use Prim.Native.Nat.{_+_, _-_}
+use mathlib.Core.Path.{sym, ap, _∙_}
+use borrow.Author.Needs.{needs}
 use borrow.Rule.Slice.PartMut.{midOf, mid-len}
 use Rattle.art.specs.Stores.{lent}
-use mathlib.Core.Path.{sym, ap, _∙_}
-use Prim.Native.Nat.{_+_, _-_}
-use borrow.Author.Needs.{needs}
+use Rattle.compose.specs.Composing.{composedAnswer, composedBuffer}
+use Rattle.wire.specs.Bytes.{put}
+use Rattle.commands.specs.Reading.{pageAt, backgroundAt, word}
+use Rattle.script.specs.Stepping.{composeAnswer, composeBytes, composedBytes}
+use Rattle.script.proofs.Composing.{lent-answer, lent-bytes}
 use Rattle.script.proofs.bytes.compose_in.Statement.{statement}
 use Rattle.script.proofs.bytes.compose_in.Tie as tie
 

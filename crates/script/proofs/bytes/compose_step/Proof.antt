@@ -1,18 +1,18 @@
 -- `compose_step` writes the number in front of what was composed. Assumes nothing.
+use Prim.Native.Nat.{_+_}
+use native.Mathlib.Omega.{arith}
+use mathlib.Core.Path.{_≡_, ap, _∙_}
+use lib.ListN.{length, take}
+use lib.Seq.{length-take-le}
+use borrow.Author.Needs.{needs}
+use Rattle.art.specs.Stores.{lent}
 use Rattle.commands.specs.Reading.{word}
-use Rattle.script.proofs.Composing.{size-at-most}
+use Rattle.commands.specs.Taking.{wordsOf}
 use Rattle.script.specs.Doing.{composedSize}
 use Rattle.script.specs.Stepping.{nextAt, composeStep}
-use Rattle.script.proofs.Ways.{composeSaid, compose-goes, compose-stops, compose-said-long, compose-written}
 use Rattle.script.proofs.Answers.{does-stop, does-go}
-use Rattle.commands.specs.Taking.{wordsOf}
-use lib.Seq.{length-take-le}
-use Rattle.art.specs.Stores.{lent}
-use native.Mathlib.Omega.{arith}
-use lib.ListN.{length, take}
-use mathlib.Core.Path.{_≡_, ap, _∙_}
-use Prim.Native.Nat.{_+_}
-use borrow.Author.Needs.{needs}
+use Rattle.script.proofs.Composing.{size-at-most}
+use Rattle.script.proofs.Ways.{composeSaid, compose-goes, compose-stops, compose-said-long, compose-written}
 use Rattle.script.proofs.bytes.compose_step.Statement.{statement}
 use Rattle.script.proofs.bytes.compose_step.Tie as tie
 

@@ -1,17 +1,16 @@
 -- `check_part` checks the part, or says that it runs past its source. Assumes nothing.
-use lib.ListN.{drop}
+use Prim.Native.Nat.{_+_, _-_}
+use native.Mathlib.Omega.{arith}
+use mathlib.Core.Path.{_≡_, sym, _∙_, subst}
+use lib.ListN.{drop, length, take}
+use borrow.Author.Needs.{needs}
+use borrow.Author.Tests.{lt-ltb, le-ltb}
+use Rattle.art.specs.Stores.{lent}
 use Rattle.compose.specs.Checking.{checkedRows, checkedNumbers}
 use Rattle.wire.specs.Saying.{Says}
 use Rattle.commands.specs.Reading.{word, pageAt}
 use Rattle.script.specs.Stepping.{checkPast, checkNumbers}
 use Rattle.script.proofs.Checks.{checks-past}
-use Rattle.art.specs.Stores.{lent}
-use borrow.Author.Tests.{lt-ltb, le-ltb}
-use native.Mathlib.Omega.{arith}
-use lib.ListN.{length, take}
-use mathlib.Core.Path.{_≡_, sym, _∙_, subst}
-use Prim.Native.Nat.{_+_, _-_}
-use borrow.Author.Needs.{needs}
 use Rattle.script.proofs.checking.check_part.Statement.{statement}
 use Rattle.script.proofs.checking.check_part.Tie as tie
 

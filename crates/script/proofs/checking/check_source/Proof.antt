@@ -1,15 +1,14 @@
 -- `check_source` checks a part of the source that the word names. Assumes nothing.
-use Rattle.wire.specs.Bytes.{wordAt}
-use lib.ListN.{List·getD-eq-default}
-use Rattle.script.specs.Stepping.{checkSource}
-use Rattle.script.proofs.Checks.{checks-of}
-use Rattle.art.specs.Stores.{lent}
+use Prim.Native.Nat.{_+_, _≤_}
 use native.Mathlib.Omega.{arith}
-use lib.ListN.{getD}
 use mathlib.Core.List.{[], _∷_}
 use mathlib.Core.Path.{sym, ap, _∙_}
-use Prim.Native.Nat.{_+_, _≤_}
+use lib.ListN.{List·getD-eq-default, getD}
 use borrow.Author.Needs.{needs}
+use Rattle.art.specs.Stores.{lent}
+use Rattle.wire.specs.Bytes.{wordAt}
+use Rattle.script.specs.Stepping.{checkSource}
+use Rattle.script.proofs.Checks.{checks-of}
 use Rattle.script.proofs.checking.check_source.Statement.{statement}
 use Rattle.script.proofs.checking.check_source.Tie as tie
 

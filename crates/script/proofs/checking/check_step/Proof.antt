@@ -1,14 +1,14 @@
 -- `check_step` says what was checked, or stops. Assumes nothing.
-use Rattle.script.specs.Stepping.{nextAt, checkStep}
-use Rattle.script.proofs.Ways.{check-stops, check-goes}
-use Rattle.script.proofs.Answers.{does-stop, does-as}
-use Rattle.commands.specs.Taking.{wordsOf}
-use lib.Seq.{length-take-le}
-use Rattle.art.specs.Stores.{lent}
 use native.Mathlib.Omega.{arith}
-use lib.ListN.{length, take}
 use mathlib.Core.Path.{_≡_, sym, ap, _∙_}
+use lib.ListN.{length, take}
+use lib.Seq.{length-take-le}
 use borrow.Author.Needs.{needs}
+use Rattle.art.specs.Stores.{lent}
+use Rattle.commands.specs.Taking.{wordsOf}
+use Rattle.script.specs.Stepping.{nextAt, checkStep}
+use Rattle.script.proofs.Answers.{does-stop, does-as}
+use Rattle.script.proofs.Ways.{check-stops, check-goes}
 use Rattle.script.proofs.checking.check_step.Statement.{statement}
 use Rattle.script.proofs.checking.check_step.Tie as tie
 

@@ -1,7 +1,7 @@
 -- `blank` is the blank layout. Assumes nothing.
-use Rattle.records.specs.Settings.{emptyLayout}
 use mathlib.Core.Path.{ap, _∙_}
 use borrow.Author.Needs.{needs}
+use Rattle.records.specs.Settings.{emptyLayout}
 use Rattle.script.proofs.running.blank.Statement.{statement}
 use Rattle.script.proofs.running.blank.Tie as tie
 

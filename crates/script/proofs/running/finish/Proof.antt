@@ -1,12 +1,11 @@
 -- `finish` writes three words. Assumes nothing.
-use Rattle.script.specs.Stepping.{endBytes}
-use Prim.Native.Nat.{_%_}
-use Rattle.wire.proofs.Putting.{first-word, one-word-more}
+use Prim.Native.Nat.{_%_, _+_}
 use native.Mathlib.Omega.{arith}
 use mathlib.Core.List.{[], _∷_}
 use mathlib.Core.Path.{refl}
-use Prim.Native.Nat.{_+_}
 use borrow.Author.Needs.{needs}
+use Rattle.wire.proofs.Putting.{first-word, one-word-more}
+use Rattle.script.specs.Stepping.{endBytes}
 use Rattle.script.proofs.running.finish.Statement.{statement}
 use Rattle.script.proofs.running.finish.Tie as tie
 

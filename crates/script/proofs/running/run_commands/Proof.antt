@@ -1,10 +1,10 @@
 -- `run_commands` says what is left to say, command by command. Assumes nothing.
-use Rattle.script.proofs.Going.{Going, going-start, going-long, ended, goes, unchanged, stops}
-use Rattle.art.specs.Stores.{lent}
-use native.Mathlib.Omega.{arith}
-use lib.ListN.{length}
-use mathlib.Core.Path.{ap, _∙_}
 use Prim.Native.Nat.{_-_}
+use native.Mathlib.Omega.{arith}
+use mathlib.Core.Path.{ap, _∙_}
+use lib.ListN.{length}
+use Rattle.art.specs.Stores.{lent}
+use Rattle.script.proofs.Going.{Going, going-start, going-long, ended, goes, unchanged, stops}
 use Rattle.script.proofs.running.run_commands.Statement.{statement}
 use Rattle.script.proofs.running.run_commands.Tie as tie
 

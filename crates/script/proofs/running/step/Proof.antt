@@ -1,18 +1,35 @@
 -- `step` stops at no command and at a command that is cut short. Assumes nothing.
-use Rattle.commands.proofs.Counts.{few-words}
+use Prim.Native.Nat.{_+_, ℕ}
+use native.Mathlib.Omega.{arith}
+use mathlib.Core.Path.{_≡_, sym, ap, _∙_}
+use lib.ListN.{length, take}
+use borrow.Author.Needs.{needs}
+use Rattle.art.specs.Stores.{lent}
 use Rattle.wire.specs.Bytes.{wordAt}
 use Rattle.commands.specs.Reading.{word}
-use Rattle.script.specs.Stepping.{nextAt, commandStep, stepped}
-use Rattle.script.proofs.Ways.{step-none, step-unknown, step-cut, step-runs}
+use Rattle.commands.proofs.Counts.{few-words}
+use Rattle.script.specs.Doing.{Does}
+use Rattle.script.specs.Stepping.{Stepped, Stops, nextAt, stepped}
+use Rattle.script.specs.declared.steps.Step.{Step}
 use Rattle.script.proofs.Answers.{does-stop, does-as}
-use Rattle.art.specs.Stores.{lent}
-use native.Mathlib.Omega.{arith}
-use lib.ListN.{length, take}
-use mathlib.Core.Path.{_≡_, sym, ap, _∙_}
-use Prim.Native.Nat.{_+_}
-use borrow.Author.Needs.{needs}
+use Rattle.script.proofs.Ways.{step-none, step-unknown, step-cut, step-runs}
 use Rattle.script.proofs.running.step.Statement.{statement}
 use Rattle.script.proofs.running.step.Tie as tie
+
+-- the step that is defined, from where the function begins
+abbrev here : tie.Start → Stepped
+here c = stepped (c .args .script .now) (lent (c .args .symbols .now) (c .args .wording .now)) (length (c .args .answers .now)) (take (c .args .written) (c .args .answers .now)) (c .args .at) (c .args .l)
+
+ends : (c : tie.Start) (r : Step) (code : ℕ) → here c ≡ Stops code → r ≡ record { layout = c .args .l; next = 0; written = 0; code = code }
+    → Does (here c) (c .args .written) (c .args .answers .now) (c .args .answers .now) r
+ends c r code e h = does-stop (c .args .written) (c .args .answers .now) r (here c) code e (ap (λ (s : Step). s .code) h)
+
+-- the command's word
+is : (c : tie.After-word-at) → word (c .before .before .before .before .before .before .args .script .now) (c .before .before .before .before .before .before .args .at) 0 ≡ c .word-at .result
+is c =
+    let a = c .before .before .before .before .before .before .args in
+    let z : a .at + 0 ≡ a .at = omega arith in
+    ap (wordAt (a .script .now)) z ∙ sym (c .word-at .ensures)
 
 sub-left : tie.Need-sub-left
 sub-left c = search needs
@@ -21,14 +38,7 @@ stopped-requires : tie.Need-stopped-requires
 stopped-requires c κs = search needs
 
 returns : tie.Need-returns
-returns c =
-    let a = c .before .before .before .before .before .before .args in
-    let script = a .script .now in
-    let s = lent (a .symbols .now) (a .wording .now) in
-    let old = a .answers .now in
-    let said = take (a .written) old in
-    let room = length old in
-    does-stop (a .written) old (c .stopped .result) (stepped script s room said (a .at) (a .l)) 2 (step-none script s room said (a .at) (a .l) (omega arith)) (ap (λ r. r .code) (c .stopped .ensures))
+returns c = ends (c .before .before .before .before .before .before) (c .stopped .result) 2 (step-none (c .before .before .before .before .before .before .args .script .now) (lent (c .before .before .before .before .before .before .args .symbols .now) (c .before .before .before .before .before .before .args .wording .now)) _ _ (c .before .before .before .before .before .before .args .at) (c .before .before .before .before .before .before .args .l) (omega arith)) (c .stopped .ensures)
 
 word-at-requires : tie.Need-word-at-requires
 word-at-requires c κs = search needs
@@ -40,17 +50,7 @@ stopped-requires-2 : tie.Need-stopped-requires-2
 stopped-requires-2 c κs = search needs
 
 returns-2 : tie.Need-returns-2
-returns-2 c =
-    let a = c .before .before .before .before .before .before .before .before .args in
-    let script = a .script .now in
-    let s = lent (a .symbols .now) (a .wording .now) in
-    let old = a .answers .now in
-    let said = take (a .written) old in
-    let room = length old in
-    let z : a .at + 0 ≡ a .at = omega arith in
-    let n = c .before .before .word-at .result in
-    let is : word script (a .at) 0 ≡ n = ap (wordAt script) z ∙ sym (c .before .before .word-at .ensures) in
-    does-stop (a .written) old (c .stopped2 .result) (stepped script s room said (a .at) (a .l)) 1 (step-unknown script s room said (a .at) (a .l) n is (omega arith) (omega arith)) (ap (λ r. r .code) (c .stopped2 .ensures))
+returns-2 c = ends (c .before .before .before .before .before .before .before .before) (c .stopped2 .result) 1 (step-unknown (c .before .before .before .before .before .before .before .before .args .script .now) (lent (c .before .before .before .before .before .before .before .before .args .symbols .now) (c .before .before .before .before .before .before .before .before .args .wording .now)) _ _ (c .before .before .before .before .before .before .before .before .args .at) (c .before .before .before .before .before .before .before .before .args .l) (c .before .before .word-at .result) (is (c .before .before)) (omega arith) (omega arith)) (c .stopped2 .ensures)
 
 words-of-requires : tie.Need-words-of-requires
 words-of-requires c κs = search needs
@@ -64,17 +64,9 @@ stopped-requires-3 c κs = search needs
 returns-3 : tie.Need-returns-3
 unfolding nextAt
 returns-3 c =
-    let a = c .before .before .before .before .before .before .before .before .before .before .args in
-    let script = a .script .now in
-    let s = lent (a .symbols .now) (a .wording .now) in
-    let old = a .answers .now in
-    let said = take (a .written) old in
-    let room = length old in
-    let z : a .at + 0 ≡ a .at = omega arith in
-    let n = c .before .before .before .before .word-at .result in
-    let is : word script (a .at) 0 ≡ n = ap (wordAt script) z ∙ sym (c .before .before .before .before .word-at .ensures) in
     let e = c .before .before .words-of .ensures in
-    does-stop (a .written) old (c .stopped3 .result) (stepped script s room said (a .at) (a .l)) 2 (step-cut script s room said (a .at) (a .l) n is (omega arith) (omega arith) (omega arith)) (ap (λ r. r .code) (c .stopped3 .ensures))
+    ends (c .before .before .before .before .before .before .before .before .before .before) (c .stopped3 .result) 2
+    (step-cut (c .before .before .before .before .before .before .before .before .before .before .args .script .now) (lent (c .before .before .before .before .before .before .before .before .before .before .args .symbols .now) (c .before .before .before .before .before .before .before .before .before .before .args .wording .now)) _ _ (c .before .before .before .before .before .before .before .before .before .before .args .at) (c .before .before .before .before .before .before .before .before .before .before .args .l) (c .before .before .before .before .word-at .result) (is (c .before .before .before .before)) (omega arith) (omega arith) (omega arith)) (c .stopped3 .ensures)
 
 run-command-requires : tie.Need-run-command-requires
 run-command-requires c κs = search needs
@@ -86,17 +78,9 @@ returns-4 : tie.Need-returns-4
 unfolding nextAt
 returns-4 c =
     let a = c .before .before .before .before .before .before .before .before .before .before .before .before .before .args in
-    let script = a .script .now in
-    let s = lent (a .symbols .now) (a .wording .now) in
-    let old = a .answers .now in
-    let said = take (a .written) old in
-    let room = length old in
-    let z : a .at + 0 ≡ a .at = omega arith in
-    let n = c .before .before .before .before .before .before .before .word-at .result in
-    let is : word script (a .at) 0 ≡ n = ap (wordAt script) z ∙ sym (c .before .before .before .before .before .before .before .word-at .ensures) in
     let e = c .before .before .before .before .before .words-of .ensures in
-    does-as (a .written) old (c .before .before .run-command .result) (stepped script s room said (a .at) (a .l)) (commandStep script s room said (a .at) (a .l) n) _
-    (step-runs script s room said (a .at) (a .l) n is (omega arith) (omega arith) (omega arith)) (c .before .before .run-command .ensures)
+    does-as (a .written) (a .answers .now) (c .before .before .run-command .result) (here (c .before .before .before .before .before .before .before .before .before .before .before .before .before)) _ _
+    (step-runs (c .before .before .before .before .before .before .before .before .before .before .before .before .before .args .script .now) (lent (c .before .before .before .before .before .before .before .before .before .before .before .before .before .args .symbols .now) (c .before .before .before .before .before .before .before .before .before .before .before .before .before .args .wording .now)) _ _ (c .before .before .before .before .before .before .before .before .before .before .before .before .before .args .at) (c .before .before .before .before .before .before .before .before .before .before .before .before .before .args .l) (c .before .before .before .before .before .before .before .word-at .result) (is (c .before .before .before .before .before .before .before)) (omega arith) (omega arith) (omega arith)) (c .before .before .run-command .ensures)
 
 pub step-spec : {M : Type 1} → statement M
 step-spec =

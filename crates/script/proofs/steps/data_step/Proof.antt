@@ -1,13 +1,13 @@
 -- `data_step` passes words over, or stops. Assumes nothing.
-use Rattle.wire.specs.Bytes.{wordAt}
-use Rattle.script.specs.Stepping.{nextAt, dataStep}
-use Rattle.commands.specs.Taking.{wordsOf}
-use borrow.Author.Tests.{lt-ltb, le-ltb}
-use native.Mathlib.Omega.{arith}
-use lib.ListN.{length}
-use mathlib.Core.Path.{_≡_, ap}
 use Prim.Native.Nat.{_+_, _*_}
+use native.Mathlib.Omega.{arith}
+use mathlib.Core.Path.{_≡_, ap}
+use lib.ListN.{length}
 use borrow.Author.Needs.{needs}
+use borrow.Author.Tests.{lt-ltb, le-ltb}
+use Rattle.wire.specs.Bytes.{wordAt}
+use Rattle.commands.specs.Taking.{wordsOf}
+use Rattle.script.specs.Stepping.{nextAt, dataStep}
 use Rattle.script.proofs.steps.data_step.Statement.{statement}
 use Rattle.script.proofs.steps.data_step.Tie as tie
 

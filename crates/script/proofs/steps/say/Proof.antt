@@ -1,14 +1,30 @@
 -- `say` writes an answer where the end still fits after it. Assumes nothing.
-use Rattle.script.specs.Stepping.{answerBytes, saying}
-use Rattle.script.proofs.Answers.{answer-long, say-fits, say-stops, does-stop, does-go}
-use lib.Seq.{length-take-le}
+use Prim.Native.Nat.{ℕ, _+_, _*_}
 use native.Mathlib.Omega.{arith}
-use lib.ListN.{length, take}
-use mathlib.Core.List.{[]}
+use mathlib.Core.List.{List, []}
 use mathlib.Core.Path.{_≡_, ap}
+use lib.ListN.{length, take}
+use lib.Seq.{length-take-le}
 use borrow.Author.Needs.{needs}
+use Rattle.script.specs.Stepping.{answerBytes}
+use Rattle.script.proofs.Answers.{answer-long, say-fits, say-stops, does-stop, does-go}
 use Rattle.script.proofs.steps.say.Statement.{statement}
 use Rattle.script.proofs.steps.say.Tie as tie
+
+-- the bytes of the answer
+abbrev bytes : tie.Start → List ℕ
+bytes c = answerBytes (take (c .args .a .count) (c .args .a .words)) []
+
+long : (c : tie.Start) → length (bytes c) ≡ 4 + 4 * c .args .a .count
+long c =
+    let a = c .args .a in
+    let n : length (a .words) ≡ 8 = search needs in
+    let few : length (take (a .count) (a .words)) ≡ a .count = length-take-le (a .count) (a .words) (omega arith) in
+    let e = answer-long (take (a .count) (a .words)) [] in
+    omega arith
+
+before : (c : tie.Start) → length (take (c .args .written) (c .args .answers .now)) ≡ c .args .written
+before c = length-take-le (c .args .written) (c .args .answers .now) (omega arith)
 
 sub-if1 : tie.Need-sub-if1
 sub-if1 c = search needs
@@ -27,15 +43,12 @@ stopped-requires c κs = search needs
 
 returns : tie.Need-returns
 returns c =
-    let a = c .before .before .before .args in
-    let old = a .answers .now in
-    let ns = take (a .a .count) (a .a .words) in
-    let n : length (a .a .words) ≡ 8 = search needs in
-    let few : length ns ≡ a .a .count = length-take-le (a .a .count) (a .a .words) (omega arith) in
-    let long = answer-long ns [] in
-    let so = length-take-le (a .written) old (omega arith) in
-    does-stop (a .written) old (c .stopped .result) (saying (length old) (take (a .written) old) (a .l) (a .next) (answerBytes ns [])) 3
-    (say-stops (length old) (take (a .written) old) (a .l) (a .next) (answerBytes ns []) (omega arith)) (ap (λ s. s .code) (c .stopped .ensures))
+    let z = c .before .before .before in
+    let a = z .args in
+    let n = long z in
+    let w = before z in
+    does-stop (a .written) (a .answers .now) (c .stopped .result) _ 3
+    (say-stops (length (a .answers .now)) (take (a .written) (a .answers .now)) (a .l) (a .next) (bytes z) (omega arith)) (ap (λ s. s .code) (c .stopped .ensures))
 
 write-answer-requires : tie.Need-write-answer-requires
 write-answer-requires c κs = search needs
@@ -45,16 +58,13 @@ same-length c = search needs
 
 returns-2 : tie.Need-returns-2
 returns-2 c =
-    let a = c .before .before .before .before .before .before .args in
-    let old = a .answers .now in
-    let ns = take (a .a .count) (a .a .words) in
-    let n : length (a .a .words) ≡ 8 = search needs in
-    let few : length ns ≡ a .a .count = length-take-le (a .a .count) (a .a .words) (omega arith) in
-    let long = answer-long ns [] in
-    let so = length-take-le (a .written) old (omega arith) in
+    let z = c .before .before .before .before .before .before in
+    let a = z .args in
+    let n = long z in
+    let w = before z in
     let e = c .before .before .write-answer .ensures in
-    does-go (a .written) old _ (saying (length old) (take (a .written) old) (a .l) (a .next) (answerBytes ns [])) _ (a .l) (a .next) (answerBytes ns [])
-    (say-fits (length old) (take (a .written) old) (a .l) (a .next) (answerBytes ns []) (omega arith))
+    does-go (a .written) (a .answers .now) _ _ _ (a .l) (a .next) (bytes z)
+    (say-fits (length (a .answers .now)) (take (a .written) (a .answers .now)) (a .l) (a .next) (bytes z) (omega arith))
     (λ i. record { layout = a .l; next = a .next; written = e .0 i; code = 0 }) (e .1)
 
 pub say-spec : {M : Type 1} → statement M

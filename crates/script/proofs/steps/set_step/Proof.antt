@@ -1,12 +1,12 @@
 -- `set_step` sets a field, or stops. Assumes nothing.
-use Rattle.wire.specs.Fields.{isField, layoutWith}
-use Rattle.script.specs.Stepping.{nextAt, setStep}
-use Rattle.commands.specs.Taking.{wordsOf}
-use borrow.Author.Tests.{not-true, not-false}
+use Prim.Native.Nat.{_+_}
 use native.Mathlib.Omega.{arith}
 use mathlib.Core.Path.{_≡_, sym, ap, _∙_}
-use Prim.Native.Nat.{_+_}
 use borrow.Author.Needs.{needs}
+use borrow.Author.Tests.{not-true, not-false}
+use Rattle.wire.specs.Fields.{isField, layoutWith}
+use Rattle.commands.specs.Taking.{wordsOf}
+use Rattle.script.specs.Stepping.{nextAt, setStep}
 use Rattle.script.proofs.steps.set_step.Statement.{statement}
 use Rattle.script.proofs.steps.set_step.Tie as tie
 

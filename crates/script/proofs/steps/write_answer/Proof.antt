@@ -1,14 +1,14 @@
 -- `write_answer` writes a word and the answer's words. Assumes nothing.
-use Rattle.script.proofs.Answers.{answer-plain, answer-long}
-use Rattle.wire.proofs.Putting.{first-word, words-behind}
-use Rattle.wire.specs.Bytes.{put, wordsBytes}
-use lib.Seq.{length-take-le}
+use Prim.Native.Nat.{_+_}
 use native.Mathlib.Omega.{arith}
-use lib.ListN.{length, take}
 use mathlib.Core.List.{[], _∷_}
 use mathlib.Core.Path.{_≡_, sym, ap, _∙_}
-use Prim.Native.Nat.{_+_}
+use lib.ListN.{length, take}
+use lib.Seq.{length-take-le}
 use borrow.Author.Needs.{needs}
+use Rattle.wire.specs.Bytes.{put, wordsBytes}
+use Rattle.wire.proofs.Putting.{first-word, words-behind}
+use Rattle.script.proofs.Answers.{answer-plain, answer-long}
 use Rattle.script.proofs.steps.write_answer.Statement.{statement}
 use Rattle.script.proofs.steps.write_answer.Tie as tie
 

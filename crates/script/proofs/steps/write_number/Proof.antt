@@ -1,9 +1,9 @@
 -- `write_number` writes two words. Assumes nothing.
-use Rattle.wire.proofs.Putting.{first-word, one-word-more}
+use Prim.Native.Nat.{_+_}
 use native.Mathlib.Omega.{arith}
 use mathlib.Core.List.{[], _∷_}
-use Prim.Native.Nat.{_+_}
 use borrow.Author.Needs.{needs}
+use Rattle.wire.proofs.Putting.{first-word, one-word-more}
 use Rattle.script.proofs.steps.write_number.Statement.{statement}
 use Rattle.script.proofs.steps.write_number.Tie as tie
 

@@ -1,6 +1,6 @@
 -- `config_with` picks each field. Assumes nothing.
-use Rattle.wire.specs.Fields.{configWith}
 use borrow.Author.Needs.{needs}
+use Rattle.wire.specs.Fields.{configWith}
 use Rattle.wire.proofs.fields.config_with.Statement.{statement}
 use Rattle.wire.proofs.fields.config_with.Tie as tie
 

@@ -1,6 +1,6 @@
 -- `frame_with` picks each field. Assumes nothing.
-use Rattle.wire.specs.Fields.{frameWith}
 use borrow.Author.Needs.{needs}
+use Rattle.wire.specs.Fields.{frameWith}
 use Rattle.wire.proofs.fields.frame_with.Statement.{statement}
 use Rattle.wire.proofs.fields.frame_with.Tie as tie
 

@@ -1,6 +1,6 @@
 -- `is_field` is the definition. Assumes nothing.
-use Rattle.wire.specs.Fields.{isField}
 use mathlib.Core.Path.{refl}
+use Rattle.wire.specs.Fields.{isField}
 use Rattle.wire.proofs.fields.is_field.Statement.{statement}
 use Rattle.wire.proofs.fields.is_field.Tie as tie
 

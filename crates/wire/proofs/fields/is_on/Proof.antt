@@ -1,6 +1,6 @@
 -- `is_on` is the definition. Assumes nothing.
-use Rattle.wire.specs.Fields.{isOn}
 use mathlib.Core.Path.{refl}
+use Rattle.wire.specs.Fields.{isOn}
 use Rattle.wire.proofs.fields.is_on.Statement.{statement}
 use Rattle.wire.proofs.fields.is_on.Tie as tie
 

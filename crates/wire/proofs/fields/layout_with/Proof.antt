@@ -1,10 +1,10 @@
 -- `layout_with` writes the part that the field belongs to. Assumes nothing.
-use Rattle.records.specs.Settings.{blankRecord}
-use borrow.Author.Tests.{lt-ltb, le-ltb, eq-eqb, ne-eqb}
-use Rattle.wire.specs.Fields.{layoutWith, withConfig, withCount, withRecordAt}
 use Prim.Native.Nat.{_%_}
 use lib.ListN.{set}
 use borrow.Author.Needs.{needs}
+use borrow.Author.Tests.{lt-ltb, le-ltb, eq-eqb, ne-eqb}
+use Rattle.records.specs.Settings.{blankRecord}
+use Rattle.wire.specs.Fields.{layoutWith, withConfig, withCount, withRecordAt}
 use Rattle.wire.proofs.fields.layout_with.Statement.{statement}
 use Rattle.wire.proofs.fields.layout_with.Tie as tie
 

@@ -1,6 +1,6 @@
 -- `record_with` picks each field. Assumes nothing.
-use Rattle.wire.specs.Fields.{recordWith}
 use borrow.Author.Needs.{needs}
+use Rattle.wire.specs.Fields.{recordWith}
 use Rattle.wire.proofs.fields.record_with.Statement.{statement}
 use Rattle.wire.proofs.fields.record_with.Tie as tie
 

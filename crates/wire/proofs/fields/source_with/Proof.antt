@@ -1,6 +1,6 @@
 -- `source_with` picks each field. Assumes nothing.
-use Rattle.wire.specs.Fields.{sourceWith}
 use borrow.Author.Needs.{needs}
+use Rattle.wire.specs.Fields.{sourceWith}
 use Rattle.wire.proofs.fields.source_with.Statement.{statement}
 use Rattle.wire.proofs.fields.source_with.Tie as tie
 

@@ -1,9 +1,9 @@
 -- `put_words` writes the words one behind the other. Assumes nothing.
-use lib.Seq.{length-take-le}
 use Prim.Native.Nat.{_+_, _-_, _*_, _≤_}
 use native.Mathlib.Omega.{arith}
 use mathlib.Core.Path.{_≡_, sym, ap, _∙_}
 use lib.ListN.{length, take, getD}
+use lib.Seq.{length-take-le}
 use borrow.Author.Needs.{needs}
 use Rattle.wire.specs.Bytes.{wordBytes, wordsBytes, put}
 use Rattle.wire.proofs.Putting.{put-none, put-long, put-behind, word-long, words-long, words-more}
