@@ -3,7 +3,12 @@
 ghost use mathlib.Core.Path.{_≡_};
 ghost use Prim.Native.Nat.{_+_, _≤_, _<_};
 ghost use lib.ListN.{length};
+ghost use lib.Ieee.{binary32, ofBits};
+ghost use Rattle.art.specs.Stores.{lent};
+ghost use Rattle.wire.specs.Saying.{Says};
+ghost use Rattle.commands.specs.Reading.{configAt, requestOf, colourOf, thresholdOf, backgroundAt};
 ghost use Rattle.commands.specs.Taking.{wordsOf, There};
+ghost use Rattle.commands.specs.Telling.{openTold, askTold, offerTold, withdrawTold, sizeTold, pixelTold, locateTold, told, Tells};
 use art::memory_rgba8_texture::Image;
 use art::memory_rgba8_texture::Pixel;
 use coords::locate;
@@ -31,6 +36,7 @@ pub struct Outcome {
 
 fn config_at(script: &[u8], at: usize) -> Config
     requires { ⌜ at + 48 ≤ length (now script) ⌝ }
+    ensures { λ r. ⌜ r ≡ configAt (now (script .entry)) at ⌝ }
 {
     let rotation = fields::is_on(words::word_at(script, at + 32));
     let trim = fields::is_on(words::word_at(script, at + 36));
@@ -53,7 +59,7 @@ fn config_at(script: &[u8], at: usize) -> Config
 
 fn open(script: &[u8], at: usize) -> Outcome
     requires { ⌜ at + 48 ≤ length (now script) ⌝ }
-    ensures { λ r. ⌜ r .answer .count ≤ 8 ⌝ }
+    ensures { λ r. ⌜ Tells (openTold (now (script .entry)) at) r ⌝ }
 {
     let o = layouts::open(config_at(script, at));
     let said = o.answer;
@@ -64,7 +70,7 @@ fn open(script: &[u8], at: usize) -> Outcome
 
 fn ask(script: &[u8], at: usize, l: Layout) -> Answer
     requires { ⌜ at + 16 ≤ length (now script) ⌝ }
-    ensures { λ r. ⌜ r .count ≤ 8 ⌝ }
+    ensures { λ r. ⌜ Says (askTold (now (script .entry)) at l .numbers) r ⌝ }
 {
     let page = Page(words::word_at(script, at + 4));
     let w = words::word_at(script, at + 8);
@@ -80,7 +86,7 @@ fn offer<'a>(
     l: Layout,
 ) -> Outcome
     requires { ⌜ at + 24 ≤ length (now script) ⌝ }
-    ensures { λ r. ⌜ r .answer .count ≤ 8 ⌝ }
+    ensures { λ r. ⌜ Tells (offerTold (now (script .entry)) at (lent (now (symbols .entry)) (now (wording .entry))) l) r ⌝ }
 {
     let key = Key(words::word_at(script, at + 4));
     let store = fields::store_of(words::word_at(script, at + 8));
@@ -104,7 +110,7 @@ fn offer<'a>(
 }
 
 fn withdraw(l: Layout) -> Outcome
-    ensures { λ r. ⌜ r .answer .count ≤ 8 ⌝ }
+    ensures { λ r. ⌜ Tells (withdrawTold l) r ⌝ }
 {
     let o = multi_texture_packer::withdraw(l);
     let said = o.answer;
@@ -118,7 +124,7 @@ fn withdraw(l: Layout) -> Outcome
 
 fn page_size(script: &[u8], at: usize, l: Layout) -> Answer
     requires { ⌜ at + 8 ≤ length (now script) ⌝ }
-    ensures { λ r. ⌜ r .count ≤ 8 ⌝ }
+    ensures { λ r. ⌜ Says (sizeTold (now (script .entry)) at l .numbers) r ⌝ }
 {
     let page = Page(words::word_at(script, at + 4));
     answers::sized(layouts::page_size(l, page))
@@ -126,7 +132,7 @@ fn page_size(script: &[u8], at: usize, l: Layout) -> Answer
 
 fn pixel<'a>(script: &'a [u8], symbols: &'a [u8], wording: &'a [u8], at: usize, l: Layout) -> Answer
     requires { ⌜ at + 16 ≤ length (now script) ⌝ }
-    ensures { λ r. ⌜ r .count ≤ 8 ⌝ }
+    ensures { λ r. ⌜ Says (pixelTold (now (script .entry)) at (lent (now (symbols .entry)) (now (wording .entry))) l .numbers) r ⌝ }
 {
     let page = Page(words::word_at(script, at + 4));
     let x = words::word_at(script, at + 8);
@@ -135,7 +141,9 @@ fn pixel<'a>(script: &'a [u8], symbols: &'a [u8], wording: &'a [u8], at: usize, 
 }
 
 // The language makes no NaN of a pattern; every pattern of a NaN stands for the one that 0 / 0 gives.
-fn number_of_bits(bits: u32) -> f32 {
+fn number_of_bits(bits: u32) -> f32
+    ensures { λ r. ⌜ r ≡ ofBits binary32 bits ⌝ }
+{
     let exponent = bits % 2147483648 / 8388608;
     let digits = bits % 8388608;
     if (exponent == 255) & (digits != 0) {
@@ -144,7 +152,9 @@ fn number_of_bits(bits: u32) -> f32 {
     f32::from_bits(bits)
 }
 
-fn request_of(request: u32, bits: u32) -> Request {
+fn request_of(request: u32, bits: u32) -> Request
+    ensures { λ r. ⌜ r ≡ requestOf request bits ⌝ }
+{
     if request == 0 {
         return Request::Pixels;
     }
@@ -156,7 +166,7 @@ fn request_of(request: u32, bits: u32) -> Request {
 
 pub fn coordinates(script: &[u8], at: usize, l: Layout) -> Answer
     requires { ⌜ at + 16 ≤ length (now script) ⌝ }
-    ensures { λ r. ⌜ r .count ≤ 8 ⌝ }
+    ensures { λ r. ⌜ Says (locateTold (now (script .entry)) at l .numbers) r ⌝ }
 {
     let key = Key(words::word_at(script, at + 4));
     let request = words::word_at(script, at + 8);
@@ -164,7 +174,9 @@ pub fn coordinates(script: &[u8], at: usize, l: Layout) -> Answer
     answers::located(locate::coordinates(l, key, request_of(request, bits)))
 }
 
-fn threshold_of(n: u32) -> Threshold {
+fn threshold_of(n: u32) -> Threshold
+    ensures { λ r. ⌜ r ≡ thresholdOf n ⌝ }
+{
     if n < 256 {
         return Threshold::AtMost(n as u8);
     }
@@ -172,7 +184,9 @@ fn threshold_of(n: u32) -> Threshold {
 }
 
 // The bytes of a word, the least first, are R G B A.
-fn colour_of(n: u32) -> Pixel {
+fn colour_of(n: u32) -> Pixel
+    ensures { λ r. ⌜ r ≡ colourOf n ⌝ }
+{
     Pixel {
         r: (n % 256) as u8,
         g: (n / 256 % 256) as u8,
@@ -184,6 +198,7 @@ fn colour_of(n: u32) -> Pixel {
 // Four words: 0 for none or anything else for a colour, the colour, the threshold, the discard switch.
 pub fn background_at(script: &[u8], at: usize) -> Background
     requires { ⌜ at + 16 ≤ length (now script) ⌝ }
+    ensures { λ r. ⌜ r ≡ backgroundAt (now (script .entry)) at ⌝ }
 {
     if words::word_at(script, at) == 0 {
         return Background::Clear;
@@ -205,8 +220,7 @@ pub fn words_of(command: usize) -> usize
 }
 
 fn unchanged(answer: Answer, l: Layout) -> Outcome
-    requires { ⌜ answer .count ≤ 8 ⌝ }
-    ensures { λ r. ⌜ r .answer .count ≤ 8 ⌝ }
+    ensures { λ r. ⌜ r ≡ record { answer = answer; layout = l } ⌝ }
 {
     Outcome { answer, layout: l }
 }
@@ -221,7 +235,7 @@ pub fn first_six<'a>(
     l: Layout,
 ) -> Outcome
     requires { ⌜ (command < 6) × There (now script) at (wordsOf command) ⌝ }
-    ensures { λ r. ⌜ r .answer .count ≤ 8 ⌝ }
+    ensures { λ r. ⌜ Tells (told (now (script .entry)) at (lent (now (symbols .entry)) (now (wording .entry))) l command) r ⌝ }
 {
     if command < 1 {
         return open(script, at);

@@ -1,23 +1,23 @@
 -- A row that is handed back has at most 2048 pixels. Assumes nothing.
-use Prim.Native.Nat.{ℕ, _*_, _≤_, min}
+use Prim.Native.Nat.{ℕ, _≤_, min}
 use native.Mathlib.Omega.{arith}
-use mathlib.Core.Path.{_≡_, refl, ap, _∙_}
 use mathlib.Core.Bool.{not}
 use mathlib.Core.List.{List}
 use mathlib.Core.Option.{Option, none, some}
-use lib.ListN.{length, take, drop, length-take}
+use mathlib.Core.Path.{_≡_, refl, ap, _∙_}
+use lib.ListN.{length, drop, length-take}
 use denote.Ref.{RefT, now}
 use borrow.Author.Tests.{not-false}
-use Rattle.art.specs.Stores.{Stores, ofStore}
 use Rattle.geometry.specs.Words.{any}
+use Rattle.art.specs.Stores.{Stores, ofStore}
 use Rattle.records.specs.Layouts.{standing, wellFormed, hasKey, recordNamed}
 use Rattle.records.specs.declared.frame.Key.{Key}
 use Rattle.records.specs.declared.layout.Layout.{Layout}
-use Rattle.records.specs.declared.refusal.Refusal.{Refusal}
 use Rattle.records.specs.declared.refusal.Refusal.the-variants.{NotWellFormed, NoSuchKey}
+use Rattle.records.specs.declared.refusal.Refusal.{Refusal}
 use Rattle.records.proofs.Rows.{passed}
-use Rattle.lookup.specs.Reading.{readRefusal, Part, rowPart, emptyPart, partAnswer, partRead, IsPart}
 use Rattle.coords.proofs.Answers.{named-good}
+use Rattle.lookup.specs.Reading.{readRefusal, rowPart, emptyPart, partAnswer, partRead, IsPart}
 
 module _ (l : Layout) (s : Stores) (k : Key) (y : ℕ) where
   short-by : (o : Option Refusal) → readRefusal l s k y ≡ o → partAnswer (rowPart (recordNamed l k) y) o .size ≤ 8192

@@ -1,2 +1,10 @@
+pub mod Answers
+pub mod Checks
+pub mod Composing
 pub mod Going
 pub mod Handed
+pub mod Onward
+pub mod Soundness
+pub mod Table
+pub mod Theorems
+pub mod Ways

@@ -1,1 +1,5 @@
+pub mod Doing
+pub mod Passing
+pub mod Running
 pub mod Stepping
+pub mod Table

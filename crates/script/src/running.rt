@@ -1,10 +1,16 @@
 // The script's commands one after the other on one layout, and the end.
 ghost use mathlib.Core.Path.{_≡_};
 ghost use Prim.Native.Nat.{_+_, _≤_, _<_};
-ghost use lib.ListN.{length};
-ghost use Rattle.wire.specs.Bytes.{Kept};
+ghost use lib.ListN.{length, take};
+ghost use Rattle.art.specs.Stores.{lent};
+ghost use Rattle.records.specs.Settings.{blankConfig, emptyLayout};
+ghost use Rattle.wire.specs.Bytes.{put};
 ghost use Rattle.commands.specs.Taking.{wordsOf, There};
-ghost use Rattle.script.specs.Stepping.{Written};
+ghost use Rattle.script.specs.Stepping.{endBytes, commandStep, stepped};
+ghost use Rattle.script.specs.Running.{ran};
+ghost use Rattle.script.specs.Doing.{Does};
+use crate::bytes;
+use crate::checking;
 use crate::steps;
 use crate::steps::Step;
 use records::layout as layouts;
@@ -25,8 +31,7 @@ fn run_command<'a>(
 ) -> Step
     requires { ⌜ (command < 12) × There (now script) at (wordsOf command) ⌝ }
     requires { ⌜ written + 12 ≤ length (now answers) ⌝ }
-    ensures { λ s. ⌜ Written written (now (answers .entry)) (now (answers .exit)) s ⌝ }
-    ensures { λ s. ⌜ (at < s .next) × (s .next ≤ length (now (script .entry))) ⌝ }
+    ensures { λ r. ⌜ Does (commandStep (now (script .entry)) (lent (now (symbols .entry)) (now (wording .entry))) (length (now (answers .entry))) (take written (now (answers .entry))) at l command) written (now (answers .entry)) (now (answers .exit)) r ⌝ }
 {
     if command < 6 {
         let o = commands::first_six(script, symbols, wording, command, at, l);
@@ -34,13 +39,13 @@ fn run_command<'a>(
         return steps::say(answers, written, o.answer, o.layout, next);
     }
     if command < 7 {
-        return steps::compose_step(script, symbols, wording, answers, at, l, written);
+        return bytes::compose_step(script, symbols, wording, answers, at, l, written);
     }
     if command < 8 {
-        return steps::check_step(script, symbols, wording, answers, at, l, written);
+        return checking::check_step(script, symbols, wording, answers, at, l, written);
     }
     if command < 9 {
-        return steps::row_step(script, symbols, wording, answers, at, l, written);
+        return bytes::row_step(script, symbols, wording, answers, at, l, written);
     }
     if command < 10 {
         return steps::say(
@@ -68,19 +73,18 @@ fn step<'a>(
     written: usize,
 ) -> Step
     requires { ⌜ (at < length (now script)) × (written + 12 ≤ length (now answers)) ⌝ }
-    ensures { λ s. ⌜ Written written (now (answers .entry)) (now (answers .exit)) s ⌝ }
-    ensures { λ s. ⌜ (at < s .next) × (s .next ≤ length (now (script .entry))) ⌝ }
+    ensures { λ r. ⌜ Does (stepped (now (script .entry)) (lent (now (symbols .entry)) (now (wording .entry))) (length (now (answers .entry))) (take written (now (answers .entry))) at l) written (now (answers .entry)) (now (answers .exit)) r ⌝ }
 {
     let left = script.len() - at;
     if left < 4 {
-        return steps::stopped(l, script.len(), written, 2);
+        return steps::stopped(l, 2);
     }
     let command = words::word_at(script, at) as usize;
     if 11 < command {
-        return steps::stopped(l, script.len(), written, 1);
+        return steps::stopped(l, 1);
     }
     if left - 4 < 4 * commands::words_of(command) {
-        return steps::stopped(l, script.len(), written, 2);
+        return steps::stopped(l, 2);
     }
     run_command(script, symbols, wording, answers, command, at, l, written)
 }
@@ -88,7 +92,7 @@ fn step<'a>(
 // The end: a code and where it ended, modulo 2^32.
 fn finish(answers: &mut [u8], written: usize, code: u32, at: usize) -> usize
     requires { ⌜ written + 12 ≤ length (now answers) ⌝ }
-    ensures { λ r. ⌜ (r ≡ written + 12) × Kept r (now (answers .entry)) (now (answers .exit)) ⌝ }
+    ensures { λ r. ⌜ (r ≡ written + 12) × (now (answers .exit) ≡ put (now (answers .entry)) written (endBytes code at)) ⌝ }
 {
     words::put_word(answers, written, 2);
     words::put_word(answers, written + 4, code);
@@ -97,7 +101,9 @@ fn finish(answers: &mut [u8], written: usize, code: u32, at: usize) -> usize
 }
 
 // At the start the layout is the blank one.
-fn blank() -> Layout {
+fn blank() -> Layout
+    ensures { λ r. ⌜ r ≡ emptyLayout blankConfig ⌝ }
+{
     layouts::empty_layout(texture_packer_config::blank_config())
 }
 
@@ -108,7 +114,8 @@ pub fn run_commands<'a>(
     answers: &mut [u8],
 ) -> usize
     requires { ⌜ 12 ≤ length (now answers) ⌝ }
-    ensures { λ r. ⌜ (r ≤ length (now (answers .entry))) × Kept r (now (answers .entry)) (now (answers .exit)) ⌝ }
+    ensures { λ r. ⌜ r ≡ length (ran (now (script .entry)) (lent (now (symbols .entry)) (now (wording .entry))) (length (now (answers .entry)))) ⌝ }
+    ensures { λ _. ⌜ now (answers .exit) ≡ put (now (answers .entry)) 0 (ran (now (script .entry)) (lent (now (symbols .entry)) (now (wording .entry))) (length (now (answers .entry)))) ⌝ }
 {
     let mut l = blank();
     let mut at: usize = 0;
@@ -117,7 +124,7 @@ pub fn run_commands<'a>(
         let s = step(script, symbols, wording, answers, at, l, written);
         let code = s.code;
         if code != 0 {
-            return finish(answers, s.written, code, at);
+            return finish(answers, written, code, at);
         }
         l = s.layout;
         at = s.next;

@@ -1,4 +1,6 @@
 // `set`: any number written to a field of the layout, so that layouts that no offer makes can be driven.
+ghost use mathlib.Core.Path.{_≡_};
+ghost use Rattle.wire.specs.Fields.{isOn, storeOf, turnOf, picked, configWith, frameWith, sourceWith, recordWith, isField, layoutWith};
 use art::memory_rgba8_texture::Store;
 use geometry::rect::Rect;
 use geometry::spot::Turn;
@@ -9,11 +11,15 @@ use records::frame::Source;
 use records::layout::Layout;
 use records::texture_packer_config::Config;
 
-pub fn is_on(n: u32) -> bool {
+pub fn is_on(n: u32) -> bool
+    ensures { λ r. ⌜ r ≡ isOn n ⌝ }
+{
     n != 0
 }
 
-pub fn store_of(n: u32) -> Store {
+pub fn store_of(n: u32) -> Store
+    ensures { λ r. ⌜ r ≡ storeOf n ⌝ }
+{
     if n == 0 {
         Store::Symbols
     } else {
@@ -21,28 +27,40 @@ pub fn store_of(n: u32) -> Store {
     }
 }
 
-fn turn_of(n: u32) -> Turn {
+fn turn_of(n: u32) -> Turn
+    ensures { λ r. ⌜ r ≡ turnOf n ⌝ }
+{
     if n == 0 { Turn::Upright } else { Turn::Turned }
 }
 
 // The number where `field` is the one asked for, else the old one.
-fn pick(field: u32, is: u32, n: u32, old: u32) -> u32 {
+fn pick(field: u32, is: u32, n: u32, old: u32) -> u32
+    ensures { λ r. ⌜ r ≡ picked field is n old ⌝ }
+{
     if field == is { n } else { old }
 }
 
-fn pick_switch(field: u32, is: u32, n: u32, old: bool) -> bool {
+fn pick_switch(field: u32, is: u32, n: u32, old: bool) -> bool
+    ensures { λ r. ⌜ r ≡ picked field is (isOn n) old ⌝ }
+{
     if field == is { is_on(n) } else { old }
 }
 
-fn pick_turn(field: u32, is: u32, n: u32, old: Turn) -> Turn {
+fn pick_turn(field: u32, is: u32, n: u32, old: Turn) -> Turn
+    ensures { λ r. ⌜ r ≡ picked field is (turnOf n) old ⌝ }
+{
     if field == is { turn_of(n) } else { old }
 }
 
-fn pick_store(field: u32, is: u32, n: u32, old: Store) -> Store {
+fn pick_store(field: u32, is: u32, n: u32, old: Store) -> Store
+    ensures { λ r. ⌜ r ≡ picked field is (storeOf n) old ⌝ }
+{
     if field == is { store_of(n) } else { old }
 }
 
-fn config_with(c: Config, field: u32, n: u32) -> Config {
+fn config_with(c: Config, field: u32, n: u32) -> Config
+    ensures { λ r. ⌜ r ≡ configWith c field n ⌝ }
+{
     Config {
         maxw: pick(field, 0, n, c.maxw),
         maxh: pick(field, 1, n, c.maxh),
@@ -58,7 +76,9 @@ fn config_with(c: Config, field: u32, n: u32) -> Config {
     }
 }
 
-fn frame_with(f: Rect, field: u32, n: u32) -> Rect {
+fn frame_with(f: Rect, field: u32, n: u32) -> Rect
+    ensures { λ r. ⌜ r ≡ frameWith f field n ⌝ }
+{
     Rect {
         x: pick(field, 18, n, f.x),
         y: pick(field, 19, n, f.y),
@@ -67,7 +87,9 @@ fn frame_with(f: Rect, field: u32, n: u32) -> Rect {
     }
 }
 
-fn source_with(s: Source, field: u32, n: u32) -> Source {
+fn source_with(s: Source, field: u32, n: u32) -> Source
+    ensures { λ r. ⌜ r ≡ sourceWith s field n ⌝ }
+{
     Source {
         x: pick(field, 24, n, s.x),
         y: pick(field, 25, n, s.y),
@@ -76,7 +98,9 @@ fn source_with(s: Source, field: u32, n: u32) -> Source {
     }
 }
 
-fn record_with(r: Record, field: u32, n: u32) -> Record {
+fn record_with(r: Record, field: u32, n: u32) -> Record
+    ensures { λ a. ⌜ a ≡ recordWith r field n ⌝ }
+{
     let key = Key(pick(field, 16, n, r.key.0));
     let page = Page(pick(field, 17, n, r.page.0));
     let frame = frame_with(r.frame, field, n);
@@ -99,12 +123,16 @@ fn record_with(r: Record, field: u32, n: u32) -> Record {
 }
 
 // Fields 0 to 11 and 16 to 29.
-pub fn is_field(field: u32) -> bool {
+pub fn is_field(field: u32) -> bool
+    ensures { λ r. ⌜ r ≡ isField field ⌝ }
+{
     (field < 12) | ((16 <= field) & (field < 30))
 }
 
 // Fields 0 to 10 are the configuration's, 11 the count, the others the record's in `place`, modulo 256.
-pub fn layout_with(l: Layout, field: u32, place: u32, n: u32) -> Layout {
+pub fn layout_with(l: Layout, field: u32, place: u32, n: u32) -> Layout
+    ensures { λ r. ⌜ r ≡ layoutWith l field place n ⌝ }
+{
     let mut out = l;
     if field < 11 {
         let c = config_with(l.config, field, n);

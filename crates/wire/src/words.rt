@@ -1,8 +1,8 @@
 // Words: unsigned numbers of 32 bits, the least byte first.
 ghost use mathlib.Core.Path.{_≡_};
 ghost use Prim.Native.Nat.{_+_, _*_, _≤_, _<_};
-ghost use lib.ListN.{length, getD};
-ghost use Rattle.wire.specs.Bytes.{wordAt, withWord, Kept};
+ghost use lib.ListN.{length, getD, take};
+ghost use Rattle.wire.specs.Bytes.{wordAt, wordBytes, wordsBytes, put};
 
 fn byte_at(bytes: &[u8], at: usize) -> u32
     requires { ⌜ at < length (now bytes) ⌝ }
@@ -24,7 +24,7 @@ pub fn word_at(bytes: &[u8], at: usize) -> u32
 
 pub fn put_word(bytes: &mut [u8], at: usize, n: u32)
     requires { ⌜ at + 4 ≤ length (now bytes) ⌝ }
-    ensures { λ _. ⌜ now (bytes .exit) ≡ withWord (now (bytes .entry)) at n ⌝ }
+    ensures { λ _. ⌜ now (bytes .exit) ≡ put (now (bytes .entry)) at (wordBytes n) ⌝ }
 {
     bytes[at] = (n % 256) as u8;
     bytes[at + 1] = (n / 256 % 256) as u8;
@@ -35,7 +35,7 @@ pub fn put_word(bytes: &mut [u8], at: usize, n: u32)
 // The first `count` of these words, from byte `at` on.
 pub fn put_words(bytes: &mut [u8], at: usize, words: [u32; 8], count: usize)
     requires { ⌜ (count ≤ 8) × (at + 4 * count ≤ length (now bytes)) ⌝ }
-    ensures { λ _. ⌜ Kept (at + 4 * count) (now (bytes .entry)) (now (bytes .exit)) ⌝ }
+    ensures { λ _. ⌜ now (bytes .exit) ≡ put (now (bytes .entry)) at (wordsBytes (take count words)) ⌝ }
 {
     let mut i = 0;
     while i < count {
@@ -47,7 +47,7 @@ pub fn put_words(bytes: &mut [u8], at: usize, words: [u32; 8], count: usize)
 // A copy of some bytes, from byte `at` on.
 pub fn put_bytes(bytes: &mut [u8], at: usize, part: &[u8])
     requires { ⌜ at + length (now part) ≤ length (now bytes) ⌝ }
-    ensures { λ _. ⌜ Kept (at + length (now (part .entry))) (now (bytes .entry)) (now (bytes .exit)) ⌝ }
+    ensures { λ _. ⌜ now (bytes .exit) ≡ put (now (bytes .entry)) at (now (part .entry)) ⌝ }
 {
     let mut i = 0;
     while i < part.len() {

@@ -1,9 +1,12 @@
 -- `first_six` has the words of each command. Assumes nothing.
-use Prim.Native.Nat.{_+_, _*_, _≤_}
 use native.Mathlib.Omega.{arith}
-use Rattle.commands.specs.Taking.{wordsOf}
-use Rattle.commands.proofs.Counts.{there-is}
+use mathlib.Core.Path.{refl}
 use borrow.Author.Needs.{needs}
+use Rattle.art.specs.Stores.{lent}
+use Rattle.commands.specs.Taking.{wordsOf}
+use Rattle.commands.specs.Telling.{told, askTold, sizeTold, pixelTold}
+use Rattle.commands.proofs.Counts.{there-is}
+use Rattle.commands.proofs.Tells.{unchanged-tells, command-tells}
 use Rattle.commands.proofs.first_six.Statement.{statement}
 use Rattle.commands.proofs.first_six.Tie as tie
 
@@ -15,7 +18,11 @@ open-requires c κs =
     omega arith
 
 returns : tie.Need-returns
-returns c = search needs
+unfolding told
+returns c =
+    let a = c .before .before .before .before .before .args in
+    let s = lent (a .symbols .now) (a .wording .now) in
+    command-tells (a .script .now) (a .at) s (a .l) (a .command) 0 (c .«open» .result) (omega arith) (c .«open» .ensures)
 
 ask-requires : tie.Need-ask-requires
 unfolding wordsOf
@@ -28,7 +35,12 @@ unchanged-requires : tie.Need-unchanged-requires
 unchanged-requires c κs = search needs
 
 returns-2 : tie.Need-returns-2
-returns-2 c = search needs
+unfolding told askTold
+returns-2 c =
+    let a = c .before .before .before .before .before .before .before .args in
+    let s = lent (a .symbols .now) (a .wording .now) in
+    command-tells (a .script .now) (a .at) s (a .l) (a .command) 1 (c .unchanged .result) (omega arith)
+    (unchanged-tells (askTold (a .script .now) (a .at) (a .l)) (c .before .ask .result) (a .l) (c .unchanged .result) (c .unchanged .ensures) refl (c .before .ask .ensures))
 
 offer-requires : tie.Need-offer-requires
 unfolding wordsOf
@@ -38,13 +50,21 @@ offer-requires c κs =
     omega arith
 
 returns-3 : tie.Need-returns-3
-returns-3 c = search needs
+unfolding told
+returns-3 c =
+    let a = c .before .before .before .before .before .before .before .args in
+    let s = lent (a .symbols .now) (a .wording .now) in
+    command-tells (a .script .now) (a .at) s (a .l) (a .command) 2 (c .offer .result) (omega arith) (c .offer .ensures)
 
 withdraw-requires : tie.Need-withdraw-requires
 withdraw-requires c κs = search needs
 
 returns-4 : tie.Need-returns-4
-returns-4 c = search needs
+unfolding told
+returns-4 c =
+    let a = c .before .before .before .before .before .before .before .before .args in
+    let s = lent (a .symbols .now) (a .wording .now) in
+    command-tells (a .script .now) (a .at) s (a .l) (a .command) 3 (c .withdraw .result) (omega arith) (c .withdraw .ensures)
 
 page-size-requires : tie.Need-page-size-requires
 unfolding wordsOf
@@ -57,7 +77,12 @@ unchanged-requires-2 : tie.Need-unchanged-requires-2
 unchanged-requires-2 c κs = search needs
 
 returns-5 : tie.Need-returns-5
-returns-5 c = search needs
+unfolding told sizeTold
+returns-5 c =
+    let a = c .before .before .before .before .before .before .before .before .before .before .args in
+    let s = lent (a .symbols .now) (a .wording .now) in
+    command-tells (a .script .now) (a .at) s (a .l) (a .command) 4 (c .unchanged2 .result) (omega arith)
+    (unchanged-tells (sizeTold (a .script .now) (a .at) (a .l)) (c .before .page-size .result) (a .l) (c .unchanged2 .result) (c .unchanged2 .ensures) refl (c .before .page-size .ensures))
 
 pixel-requires : tie.Need-pixel-requires
 unfolding wordsOf
@@ -70,7 +95,12 @@ unchanged-requires-3 : tie.Need-unchanged-requires-3
 unchanged-requires-3 c κs = search needs
 
 returns-6 : tie.Need-returns-6
-returns-6 c = search needs
+unfolding told pixelTold
+returns-6 c =
+    let a = c .before .before .before .before .before .before .before .before .before .before .args in
+    let s = lent (a .symbols .now) (a .wording .now) in
+    command-tells (a .script .now) (a .at) s (a .l) (a .command) 5 (c .unchanged3 .result) (omega arith)
+    (unchanged-tells (pixelTold (a .script .now) (a .at) s (a .l)) (c .before .pixel .result) (a .l) (c .unchanged3 .result) (c .unchanged3 .ensures) refl (c .before .pixel .ensures))
 
 pub first-six-spec : {M : Type 1} → statement M
 first-six-spec =

@@ -1,14 +1,24 @@
 -- `number_of_bits` makes no NaN of its bits. Assumes nothing.
-use mathlib.Core.Path.{_≡_, sym, subst}
-use mathlib.Core.Bool.{false, not}
+use mathlib.Core.Bool.{false, not, true}
+use mathlib.Core.Path.{_≡_, refl, sym, _∙_, subst}
 use lib.Dec.{T}
-use lib.Ieee.{nanBits, binary32}
+use lib.Ieee.Bits.{nanBits-is}
+use lib.Ieee.{div, ofBits, nanBits, binary32, nan}
 use borrow.Author.Needs.{needs}
+use Rattle.commands.proofs.Tells.{one-nan}
 use Rattle.commands.proofs.number_of_bits.Statement.{statement}
 use Rattle.commands.proofs.number_of_bits.Tie as tie
 
+zero-by-zero : div binary32 (ofBits binary32 0) (ofBits binary32 0) ≡ nan
+unfolding div ofBits
+zero-by-zero = refl
+
 returns : tie.Need-returns
-returns c = search needs
+unfolding nanBits
+returns c =
+    let bits = c .before .args .bits in
+    let is : nanBits binary32 bits ≡ true = c .if1 .taken in
+    zero-by-zero ∙ one-nan (ofBits binary32 bits) (sym (nanBits-is binary32 bits) ∙ is)
 
 float-from-bits-result : tie.Need-float-from-bits-result
 unfolding nanBits

@@ -1,9 +1,11 @@
 -- `finish` writes three words. Assumes nothing.
-use Prim.Native.Nat.{_+_, _-_, _*_, _≤_}
+use Prim.Native.Nat.{_%_, _+_}
 use native.Mathlib.Omega.{arith}
-use mathlib.Core.Path.{_≡_, refl, sym, ap, _∙_, subst}
-use Rattle.wire.proofs.Keeping.{kept-none, kept-trans, kept-later, kept-as, as-word-kept}
+use mathlib.Core.List.{[], _∷_}
+use mathlib.Core.Path.{refl}
 use borrow.Author.Needs.{needs}
+use Rattle.wire.proofs.Putting.{first-word, one-word-more}
+use Rattle.script.specs.Stepping.{endBytes}
 use Rattle.script.proofs.running.finish.Statement.{statement}
 use Rattle.script.proofs.running.finish.Tie as tie
 
@@ -32,17 +34,13 @@ same-length : tie.Need-same-length
 same-length c = search needs
 
 returns : tie.Need-returns
+unfolding endBytes
 returns c =
     let a = c .before .before .before .before .before .before .before .before .before .before .before .before .before .args in
-    let two : a .written + 4 + 4 ≡ a .written + 8 = omega arith in
-    let three : a .written + 8 + 4 ≡ a .written + 12 = omega arith in (
-      refl,
-      kept-trans (a .written + 12)
-          (kept-later (a .written + 4) (a .written + 12) (omega arith) (as-word-kept _ _ (c .before .before .before .before .before .before .before .before .before .before .put-word .ensures)))
-          (kept-trans (a .written + 12)
-          (kept-later (a .written + 8) (a .written + 12) (omega arith) (kept-as two (as-word-kept _ _ (c .before .before .before .before .before .before .put-word2 .ensures))))
-          (kept-as three (as-word-kept _ _ (c .before .before .put-word3 .ensures)))),
-    )
+    let old = a .answers .now in
+    let one = first-word old (a .written) 2 (c .before .before .before .before .before .before .before .before .before .before .put-word .ensures) in
+    let two = one-word-more old (a .written) (a .written + 4) (2 ∷ []) (a .code) one (c .before .before .before .before .before .before .put-word2 .ensures) (omega arith) (omega arith) in
+    (refl, one-word-more old (a .written) (a .written + 8) (2 ∷ a .code ∷ []) (a .at % 4294967296) two (c .before .before .put-word3 .ensures) (omega arith) (omega arith))
 
 pub finish-spec : {M : Type 1} → statement M
 finish-spec =

@@ -1,12 +1,33 @@
--- `run_command` has the words of each command. Assumes nothing.
-use Prim.Native.Nat.{_+_, _-_, _*_, _≤_}
+-- `run_command` runs the command that the number names. Assumes nothing.
+use Prim.Native.Nat.{_+_, _*_, ℕ}
 use native.Mathlib.Omega.{arith}
-use Rattle.commands.specs.Taking.{wordsOf}
-use Rattle.commands.proofs.Counts.{there-is}
-use Rattle.script.proofs.Going.{stays}
+use mathlib.Core.List.{List}
+use mathlib.Core.Path.{_≡_, refl, sym, _∙_, subst}
+use lib.ListN.{length, take}
 use borrow.Author.Needs.{needs}
+use Rattle.art.specs.Stores.{lent}
+use Rattle.commands.specs.Taking.{wordsOf, There}
+use Rattle.commands.specs.Telling.{told, locateTold}
+use Rattle.commands.proofs.Counts.{there-is}
+use Rattle.script.specs.Doing.{Does}
+use Rattle.script.specs.Stepping.{nextAt, setStep, dataStep, commandStep}
+use Rattle.script.specs.declared.steps.Step.{Step}
+use Rattle.script.proofs.Answers.{does-as, does-quiet}
+use Rattle.script.proofs.Ways.{first-six-step, telling-is, quiet-set, quiet-data}
 use Rattle.script.proofs.running.run_command.Statement.{statement}
 use Rattle.script.proofs.running.run_command.Tie as tie
+
+-- what the function does for the command of a number
+abbrev Runs : (c : tie.Start) → ℕ → List ℕ → Step → Type 0
+Runs c n new r =
+    Does (commandStep (c .args .script .now) (lent (c .args .symbols .now) (c .args .wording .now)) (length (c .args .answers .now)) (take (c .args .written) (c .args .answers .now)) (c .args .at) (c .args .l) n)
+    (c .args .written) (c .args .answers .now) new r
+
+known : (c : tie.Start) (k : ℕ) (new : List ℕ) (r : Step) → c .args .command ≡ k → Runs c k new r → Runs c (c .args .command) new r
+known c k new r e h = subst (λ (n : ℕ). Runs c n new r) (sym e) h
+
+there : (c : tie.Start) (k : ℕ) → c .args .command ≡ k → There (c .args .script .now) (c .args .at) (wordsOf k)
+there c k e = there-is (c .args .script .now) (c .args .at) (c .args .command) k e (c .pre .0 .1)
 
 first-six-requires : tie.Need-first-six-requires
 first-six-requires c κs = search needs
@@ -30,68 +51,58 @@ same-length : tie.Need-same-length
 same-length c = search needs
 
 returns : tie.Need-returns
-returns c = search needs
+unfolding nextAt
+returns c =
+    let z = c .before .before .before .before .before .before .before .before .before .before .before in
+    let a = z .args in
+    let t = c .before .before .before .before .before .first-six .ensures in
+    let words = c .before .before .before .before .words-of .ensures in
+    let p = c .before .before .say in
+    let next : a .at + 4 + 4 * c .before .before .before .before .words-of .result ≡ a .at + 4 * (1 + wordsOf (a .command)) = omega arith in
+    let s = lent (a .symbols .now) (a .wording .now) in
+    let said = take (a .written) (a .answers .now) in
+    let room = length (a .answers .now) in
+    does-as (a .written) (a .answers .now) (p .result) _ _ _
+    (first-six-step (a .script .now) s room said (a .at) (a .l) (a .command) (omega arith)
+    ∙ telling-is room said (a .at) (a .command) (told (a .script .now) (a .at) s (a .l) (a .command)) _ _ _ (t .layout) next (t .says .words))
+    (p .ensures)
 
 compose-step-requires : tie.Need-compose-step-requires
 unfolding wordsOf
-compose-step-requires c κs =
-    let s = c .before .before .before .before .before .before .before in
-    let h = there-is (s .args .script .now) (s .args .at) (s .args .command) 6 (omega arith) (s .pre .0 .1) in
-    (omega arith, s .pre .1)
+compose-step-requires c κs = let h = there (c .before .before .before .before .before .before .before) 6 (omega arith) in (omega arith, c .before .before .before .before .before .before .before .pre .1)
 
 same-length-2 : tie.Need-same-length-2
 same-length-2 c = search needs
 
 returns-2 : tie.Need-returns-2
-unfolding wordsOf
-returns-2 c =
-    let s = c .before .before .before .before .before .before .before .before .before .before in
-    let h = there-is (s .args .script .now) (s .args .at) (s .args .command) 6 (omega arith) (s .pre .0 .1) in
-    let p = c .before .before .compose-step .ensures in
-    (p .0, (omega arith, omega arith))
+unfolding commandStep
+returns-2 c = known (c .before .before .before .before .before .before .before .before .before .before) 6 _ _ (omega arith) (c .before .before .compose-step .ensures)
 
 check-step-requires : tie.Need-check-step-requires
 unfolding wordsOf
-check-step-requires c κs =
-    let s = c .before .before .before .before .before .before .before .before in
-    let h = there-is (s .args .script .now) (s .args .at) (s .args .command) 7 (omega arith) (s .pre .0 .1) in
-    (omega arith, s .pre .1)
+check-step-requires c κs = let h = there (c .before .before .before .before .before .before .before .before) 7 (omega arith) in (omega arith, c .before .before .before .before .before .before .before .before .pre .1)
 
 same-length-3 : tie.Need-same-length-3
 same-length-3 c = search needs
 
 returns-3 : tie.Need-returns-3
-unfolding wordsOf
-returns-3 c =
-    let s = c .before .before .before .before .before .before .before .before .before .before .before in
-    let h = there-is (s .args .script .now) (s .args .at) (s .args .command) 7 (omega arith) (s .pre .0 .1) in
-    let p = c .before .before .check-step .ensures in
-    (p .0, (omega arith, omega arith))
+unfolding commandStep
+returns-3 c = known (c .before .before .before .before .before .before .before .before .before .before .before) 7 _ _ (omega arith) (c .before .before .check-step .ensures)
 
 row-step-requires : tie.Need-row-step-requires
 unfolding wordsOf
-row-step-requires c κs =
-    let s = c .before .before .before .before .before .before .before .before .before in
-    let h = there-is (s .args .script .now) (s .args .at) (s .args .command) 8 (omega arith) (s .pre .0 .1) in
-    (omega arith, s .pre .1)
+row-step-requires c κs = let h = there (c .before .before .before .before .before .before .before .before .before) 8 (omega arith) in (omega arith, c .before .before .before .before .before .before .before .before .before .pre .1)
 
 same-length-4 : tie.Need-same-length-4
 same-length-4 c = search needs
 
 returns-4 : tie.Need-returns-4
-unfolding wordsOf
-returns-4 c =
-    let s = c .before .before .before .before .before .before .before .before .before .before .before .before in
-    let h = there-is (s .args .script .now) (s .args .at) (s .args .command) 8 (omega arith) (s .pre .0 .1) in
-    let p = c .before .before .row-step .ensures in
-    (p .0, (omega arith, omega arith))
+unfolding commandStep
+returns-4 c = known (c .before .before .before .before .before .before .before .before .before .before .before .before) 8 _ _ (omega arith) (c .before .before .row-step .ensures)
 
 coordinates-requires : tie.Need-coordinates-requires
 unfolding wordsOf
-coordinates-requires c κs =
-    let s = c .before .before .before .before .before .before .before .before .before .before in
-    let h = there-is (s .args .script .now) (s .args .at) (s .args .command) 9 (omega arith) (s .pre .0 .1) in
-    omega arith
+coordinates-requires c κs = let h = there (c .before .before .before .before .before .before .before .before .before .before) 9 (omega arith) in omega arith
 
 add-say : tie.Need-add-say
 add-say c = search needs
@@ -103,42 +114,36 @@ same-length-5 : tie.Need-same-length-5
 same-length-5 c = search needs
 
 returns-5 : tie.Need-returns-5
-unfolding wordsOf
+unfolding commandStep nextAt wordsOf locateTold
 returns-5 c =
-    let s = c .before .before .before .before .before .before .before .before .before .before .before .before .before .before in
-    let h = there-is (s .args .script .now) (s .args .at) (s .args .command) 9 (omega arith) (s .pre .0 .1) in
-    let p = c .before .before .say2 .ensures in
-    (p .0, (omega arith, omega arith))
+    let a = c .before .before .before .before .before .before .before .before .before .before .before .before .before .before .args in
+    let p = c .before .before .say2 in
+    known (c .before .before .before .before .before .before .before .before .before .before .before .before .before .before) 9 _ _ (omega arith)
+    (does-as (a .written) (a .answers .now) (p .result) _ _ _
+    (telling-is (length (a .answers .now)) (take (a .written) (a .answers .now)) (a .at) 9 (locateTold (a .script .now) (a .at) (a .l)) (a .l) (a .at + 16) _ refl refl (c .before .before .before .coordinates .ensures .words))
+    (p .ensures))
 
 set-step-requires : tie.Need-set-step-requires
 unfolding wordsOf
-set-step-requires c κs =
-    let s = c .before .before .before .before .before .before .before .before .before .before in
-    let h = there-is (s .args .script .now) (s .args .at) (s .args .command) 10 (omega arith) (s .pre .0 .1) in
-    omega arith
+set-step-requires c κs = let h = there (c .before .before .before .before .before .before .before .before .before .before) 10 (omega arith) in omega arith
 
 returns-6 : tie.Need-returns-6
-unfolding wordsOf
+unfolding commandStep
 returns-6 c =
-    let s = c .before .before .before .before .before .before .before .before .before .before .before in
-    let h = there-is (s .args .script .now) (s .args .at) (s .args .command) 10 (omega arith) (s .pre .0 .1) in
-    let p = c .set-step .ensures in
-    (stays _ _ _ (p .0) (s .pre .1), (omega arith, omega arith))
+    let a = c .before .before .before .before .before .before .before .before .before .before .before .args in
+    known (c .before .before .before .before .before .before .before .before .before .before .before) 10 _ _ (omega arith)
+    (does-quiet (a .written) (a .answers .now) (c .set-step .result) (setStep (a .script .now) (a .at) (a .l)) (quiet-set (a .script .now) (a .at) (a .l)) (c .set-step .ensures))
 
 data-step-requires : tie.Need-data-step-requires
 unfolding wordsOf
-data-step-requires c κs =
-    let s = c .before .before .before .before .before .before .before .before .before .before in
-    let h = there-is (s .args .script .now) (s .args .at) (s .args .command) 11 (omega arith) (s .pre .0 .1) in
-    omega arith
+data-step-requires c κs = let h = there (c .before .before .before .before .before .before .before .before .before .before) 11 (omega arith) in omega arith
 
 returns-7 : tie.Need-returns-7
-unfolding wordsOf
+unfolding commandStep
 returns-7 c =
-    let s = c .before .before .before .before .before .before .before .before .before .before .before in
-    let h = there-is (s .args .script .now) (s .args .at) (s .args .command) 11 (omega arith) (s .pre .0 .1) in
-    let p = c .data-step .ensures in
-    (stays _ _ _ (p .0) (s .pre .1), (p .1, p .2))
+    let a = c .before .before .before .before .before .before .before .before .before .before .before .args in
+    known (c .before .before .before .before .before .before .before .before .before .before .before) 11 _ _ (omega arith)
+    (does-quiet (a .written) (a .answers .now) (c .data-step .result) (dataStep (a .script .now) (a .at) (a .l)) (quiet-data (a .script .now) (a .at) (a .l)) (c .data-step .ensures))
 
 pub run-command-spec : {M : Type 1} → statement M
 run-command-spec =

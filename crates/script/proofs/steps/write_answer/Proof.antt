@@ -1,18 +1,19 @@
 -- `write_answer` writes a word and the answer's words. Assumes nothing.
-use Prim.Native.Nat.{_+_, _*_}
-use mathlib.Core.Path.{_≡_, refl, sym, subst}
+use Prim.Native.Nat.{_+_}
 use native.Mathlib.Omega.{arith}
-use Rattle.wire.specs.Bytes.{Kept}
-use Rattle.wire.proofs.Keeping.{kept-trans, kept-later, word-kept}
+use mathlib.Core.List.{[], _∷_}
+use mathlib.Core.Path.{_≡_, sym, ap, _∙_}
+use lib.ListN.{length, take}
+use lib.Seq.{length-take-le}
 use borrow.Author.Needs.{needs}
+use Rattle.wire.specs.Bytes.{put, wordsBytes}
+use Rattle.wire.proofs.Putting.{first-word, words-behind}
+use Rattle.script.proofs.Answers.{answer-plain, answer-long}
 use Rattle.script.proofs.steps.write_answer.Statement.{statement}
 use Rattle.script.proofs.steps.write_answer.Tie as tie
 
 cast-put-word : tie.Need-cast-put-word
 cast-put-word c = search needs
-
-add-put-word : tie.Need-add-put-word
-add-put-word c = search needs
 
 put-word-requires : tie.Need-put-word-requires
 put-word-requires c κs = search needs
@@ -38,16 +39,26 @@ same-length c = search needs
 returns : tie.Need-returns
 returns c =
     let a = c .before .before .before .before .before .before .before .before .before .before .args in
-    let to = a .written + 4 + 4 * a .a .count in
-    let first = subst (λ z. Kept (a .written + 4) (a .answers .now) z) (sym (c .before .before .before .before .before .before .put-word .ensures)) (word-kept (a .answers .now) (a .written) _) in
-    (refl, kept-trans to (kept-later (a .written + 4) to (omega arith) first) (c .before .before .put-words .ensures))
+    let old = a .answers .now in
+    let w = a .written in
+    let ns = take (a .a .count) (a .a .words) in
+    let n : length (a .a .words) ≡ 8 = search needs in
+    let few : length ns ≡ a .a .count = length-take-le (a .a .count) (a .a .words) (omega arith) in
+    let long = answer-long ns [] in
+    let first = first-word old w (a .a .count) (c .before .before .before .before .before .before .put-word .ensures) in (
+      omega arith,
+      c .before .before .put-words .ensures
+          ∙ ap (λ z. put z (w + 4) (wordsBytes ns)) first
+          ∙ words-behind old w (w + 4) (a .a .count ∷ []) ns (omega arith) (omega arith)
+          ∙ ap (λ k. put old w (wordsBytes (k ∷ ns))) (sym few)
+          ∙ ap (put old w) (sym (answer-plain ns)),
+    )
 
 pub write-answer-spec : {M : Type 1} → statement M
 write-answer-spec =
     tie.close
     (tie.spec
     cast-put-word
-    add-put-word
     put-word-requires
     add-put-words
     put-words-requires

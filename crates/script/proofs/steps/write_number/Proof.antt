@@ -1,10 +1,9 @@
 -- `write_number` writes two words. Assumes nothing.
-use Prim.Native.Nat.{_+_, _-_, _*_, _≤_}
+use Prim.Native.Nat.{_+_}
 use native.Mathlib.Omega.{arith}
-use mathlib.Core.Path.{_≡_, refl, sym, ap, _∙_, subst}
-use Rattle.wire.specs.Bytes.{Kept}
-use Rattle.wire.proofs.Keeping.{kept-none, kept-trans, kept-later, kept-as, as-word-kept}
+use mathlib.Core.List.{[], _∷_}
 use borrow.Author.Needs.{needs}
+use Rattle.wire.proofs.Putting.{first-word, one-word-more}
 use Rattle.script.proofs.steps.write_number.Statement.{statement}
 use Rattle.script.proofs.steps.write_number.Tie as tie
 
@@ -26,10 +25,8 @@ same-length c = search needs
 returns : tie.Need-returns
 returns c =
     let a = c .before .before .before .before .before .before .before .before .before .args in
-    let up : a .written + 4 + 4 ≡ a .written + 8 = omega arith in
-    kept-trans (a .written + 8)
-    (kept-later (a .written + 4) (a .written + 8) (omega arith) (as-word-kept _ _ (c .before .before .before .before .before .before .put-word .ensures)))
-    (kept-as up (as-word-kept _ _ (c .before .before .put-word2 .ensures)))
+    one-word-more (a .answers .now) (a .written) (a .written + 4) ((1 + a .more) ∷ []) (a .n)
+    (first-word (a .answers .now) (a .written) (1 + a .more) (c .before .before .before .before .before .before .put-word .ensures)) (c .before .before .put-word2 .ensures) (omega arith) (omega arith)
 
 pub write-number-spec : {M : Type 1} → statement M
 write-number-spec =

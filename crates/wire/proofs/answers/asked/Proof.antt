@@ -1,6 +1,4 @@
 -- `asked` gives the words of each case. Assumes nothing.
-use mathlib.Core.Path.{refl}
-use native.Mathlib.Omega.{arith}
 use borrow.Author.Needs.{needs}
 use Rattle.wire.proofs.answers.asked.Statement.{statement}
 use Rattle.wire.proofs.answers.asked.Tie as tie

@@ -1,6 +1,5 @@
 -- `composed` gives the number of each case. Assumes nothing.
 use mathlib.Core.Path.{refl}
-use mathlib.Core.Path.{sym, ap}
 use borrow.Author.Needs.{needs}
 use Rattle.wire.proofs.answers.composed.Statement.{statement}
 use Rattle.wire.proofs.answers.composed.Tie as tie

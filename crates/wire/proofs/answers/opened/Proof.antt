@@ -1,6 +1,4 @@
 -- `opened` gives the words of each case. Assumes nothing.
-use mathlib.Core.Path.{refl}
-use native.Mathlib.Omega.{arith}
 use borrow.Author.Needs.{needs}
 use Rattle.wire.proofs.answers.opened.Statement.{statement}
 use Rattle.wire.proofs.answers.opened.Tie as tie

@@ -1,8 +1,8 @@
-use mathlib.Core.Path.{refl}
+-- `put_word` writes the four bytes. Assumes nothing.
 use native.Mathlib.Omega.{arith}
 use lib.ListN.{length-set}
 use borrow.Author.Needs.{needs}
-use Rattle.wire.specs.Bytes.{withWord}
+use Rattle.wire.proofs.Putting.{four-sets}
 use Rattle.wire.proofs.words.put_word.Statement.{statement}
 use Rattle.wire.proofs.words.put_word.Tie as tie
 
@@ -43,8 +43,7 @@ same-length : tie.Need-same-length
 same-length c = search needs
 
 returns : tie.Need-returns
-unfolding withWord
-returns c = refl
+returns c = four-sets (c .args .bytes .now) (c .args .at) (c .args .n) (omega arith)
 
 pub put-word-spec : {M : Type 1} → statement M
 put-word-spec =

@@ -1,8 +1,7 @@
 -- `word_at` reads four bytes. Assumes nothing.
-use mathlib.Core.Path.{_≡_, sym, ap, _∙_}
 use native.Mathlib.Omega.{arith}
-use Rattle.wire.specs.Bytes.{wordAt}
 use borrow.Author.Needs.{needs}
+use Rattle.wire.specs.Bytes.{wordAt}
 use Rattle.wire.proofs.words.word_at.Statement.{statement}
 use Rattle.wire.proofs.words.word_at.Tie as tie
 
