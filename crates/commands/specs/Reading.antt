@@ -12,12 +12,12 @@ use Rattle.art.specs.declared.memory_rgba8_texture.Pixel.{Pixel}
 use Rattle.records.specs.declared.frame.Key.{Key}
 use Rattle.records.specs.declared.frame.Page.{Page}
 use Rattle.records.specs.declared.texture_packer_config.Config.{Config}
-use Rattle.coords.specs.declared.locate.Request.the-variants.{Pixels, Edges, Inset}
 use Rattle.coords.specs.declared.locate.Request.{Request}
-use Rattle.paint.specs.declared.background.Background.the-variants.{Clear, Colour}
+use Rattle.coords.specs.declared.locate.Request.the-variants.{Pixels, Edges, Inset}
 use Rattle.paint.specs.declared.background.Background.{Background}
-use Rattle.paint.specs.declared.background.Threshold.the-variants.{Unset, AtMost}
+use Rattle.paint.specs.declared.background.Background.the-variants.{Clear, Colour}
 use Rattle.paint.specs.declared.background.Threshold.{Threshold}
+use Rattle.paint.specs.declared.background.Threshold.the-variants.{Unset, AtMost}
 use Rattle.wire.specs.Bytes.{wordAt, wordBytes}
 use Rattle.wire.specs.Fields.{isOn, storeOf}
 

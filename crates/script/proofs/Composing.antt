@@ -13,8 +13,8 @@ use Rattle.records.specs.declared.refusal.Refusal.{Refusal}
 use Rattle.paint.specs.Pictures.{band}
 use Rattle.paint.specs.declared.background.Background.{Background}
 use Rattle.compose.specs.Composing.{composeAnswer, composeBuffer, bandRefusal, composedAnswer, composedBuffer, composedNumbers}
-use Rattle.compose.specs.declared.image_exporter.Composed.the-variants.{Done, Refused}
 use Rattle.compose.specs.declared.image_exporter.Composed.{Composed}
+use Rattle.compose.specs.declared.image_exporter.Composed.the-variants.{Done, Refused}
 use Rattle.compose.proofs.Theorems.{compose-long}
 use Rattle.wire.specs.Bytes.{put}
 use Rattle.wire.proofs.Putting.{put-none, lent-put}

@@ -13,8 +13,8 @@ use Rattle.art.specs.Stores.{Stores, ofStore}
 use Rattle.records.specs.Layouts.{standing, wellFormed, hasKey, recordNamed}
 use Rattle.records.specs.declared.frame.Key.{Key}
 use Rattle.records.specs.declared.layout.Layout.{Layout}
-use Rattle.records.specs.declared.refusal.Refusal.the-variants.{NotWellFormed, NoSuchKey}
 use Rattle.records.specs.declared.refusal.Refusal.{Refusal}
+use Rattle.records.specs.declared.refusal.Refusal.the-variants.{NotWellFormed, NoSuchKey}
 use Rattle.records.proofs.Rows.{passed}
 use Rattle.coords.proofs.Answers.{named-good}
 use Rattle.lookup.specs.Reading.{readRefusal, rowPart, emptyPart, partAnswer, partRead, IsPart}

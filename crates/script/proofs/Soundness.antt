@@ -12,7 +12,7 @@ use Rattle.records.specs.declared.layout.Layout.{Layout}
 use Rattle.wire.specs.Fields.{isField}
 use Rattle.commands.specs.Reading.{word}
 use Rattle.commands.specs.Telling.{Told}
-use Rattle.script.specs.Stepping.{Stepped, GoesOn, Stops, answerBytes, nextAt, saying, telling, composeAnswer, composeStep, checkSource, checkPast, checkStep, rowStep, setStep, dataStep, commandStep, stepped}
+use Rattle.script.specs.Stepping.{Stepped, GoesOn, Stops, answerBytes, nextAt, saying, telling, composeOutcome, composeStep, checkSource, checkPast, checkStep, rowStep, setStep, dataStep, commandStep, stepped}
 use Rattle.script.proofs.Composing.{size-at-most}
 use Rattle.script.proofs.Ways.{composeSaid, compose-said-long}
 
@@ -49,7 +49,7 @@ module _ (script : List ℕ) (s : Stores) (room : ℕ) (said : List ℕ) (at : �
       (λ e.
       let fits = leb-true (length said + 8 + word script at 8 + 12) room e in
       let long = compose-said-long script s at l in
-      let most = size-at-most (composeAnswer script s at l) (word script at 8) in
+      let most = size-at-most (composeOutcome script s at l) (word script at 8) in
       (further at 6, g, omega arith))
       (λ e. omega arith)
 

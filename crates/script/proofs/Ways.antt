@@ -16,7 +16,7 @@ use Rattle.wire.specs.Fields.{isField, layoutWith}
 use Rattle.commands.specs.Reading.{word, pageAt, backgroundAt}
 use Rattle.commands.specs.Telling.{Told, told}
 use Rattle.script.specs.Doing.{composedSize, saidBy}
-use Rattle.script.specs.Stepping.{GoesOn, Stops, answerBytes, nextAt, saying, telling, composedBytes, composeAnswer, composeBytes, composeStep, checkSource, checkPast, checkNumbers, checkStep, setStep, dataStep, commandStep, stepped}
+use Rattle.script.specs.Stepping.{GoesOn, Stops, answerBytes, nextAt, saying, telling, composedBytes, composeOutcome, composePixels, composeStep, checkSource, checkPast, checkNumbers, checkStep, setStep, dataStep, commandStep, stepped}
 use Rattle.script.proofs.Answers.{answer-long, front-answer}
 use Rattle.script.proofs.Composing.{one-number, size-at-most, composed-long}
 
@@ -24,7 +24,7 @@ use Rattle.script.proofs.Composing.{one-number, size-at-most, composed-
 
 module _ (script : List ℕ) (s : Stores) (at : ℕ) (l : Layout) where
   abbrev pub composeSaid : List ℕ
-  composeSaid = answerBytes (composedNumbers (composeAnswer script s at l)) (composedBytes (composeAnswer script s at l) (composeBytes script s at l))
+  composeSaid = answerBytes (composedNumbers (composeOutcome script s at l)) (composedBytes (composeOutcome script s at l) (composePixels script s at l))
 
   pub compose-goes : (room : ℕ) (said : List ℕ) → length said + 8 + word script at 8 + 12 ≤ room
       → composeStep script s room said at l ≡ GoesOn l (nextAt at 6) composeSaid
@@ -35,25 +35,25 @@ module _ (script : List ℕ) (s : Stores) (at : ℕ) (l : Layout) where
   unfolding composeStep
   compose-stops room said h = ap (λ (b : Bool). cond b (GoesOn l (nextAt at 6) composeSaid) (Stops 3)) (lt-leb (length said + 8 + word script at 8 + 12) room h)
 
-  composed-bytes-long : length (composedBytes (composeAnswer script s at l) (composeBytes script s at l)) ≡ composedSize (composeAnswer script s at l) (word script at 8)
-  unfolding composeAnswer composeBytes
+  composed-bytes-long : length (composedBytes (composeOutcome script s at l) (composePixels script s at l)) ≡ composedSize (composeOutcome script s at l) (word script at 8)
+  unfolding composeOutcome composePixels
   composed-bytes-long =
       composed-long l s (pageAt script at) (backgroundAt script (at + 8)) (word script at 6) (word script at 7) (word script at 8)
 
-  pub compose-said-long : length composeSaid ≡ 8 + composedSize (composeAnswer script s at l) (word script at 8)
+  pub compose-said-long : length composeSaid ≡ 8 + composedSize (composeOutcome script s at l) (word script at 8)
   compose-said-long =
-      let o = composeAnswer script s at l in
-      let n = answer-long (composedNumbers o) (composedBytes o (composeBytes script s at l)) in
+      let o = composeOutcome script s at l in
+      let n = answer-long (composedNumbers o) (composedBytes o (composePixels script s at l)) in
       let one = one-number o in
       let m = composed-bytes-long in
       omega arith
 
   -- the number goes in front of the bytes
-  pub compose-written : (old : List ℕ) (w : ℕ) (o : Composed) (n more : ℕ) {y z : List ℕ} → o ≡ composeAnswer script s at l → composedNumbers o ≡ n ∷ []
-      → more ≡ composedSize o (word script at 8) → y ≡ put old (w + 8) (composedBytes o (composeBytes script s at l))
+  pub compose-written : (old : List ℕ) (w : ℕ) (o : Composed) (n more : ℕ) {y z : List ℕ} → o ≡ composeOutcome script s at l → composedNumbers o ≡ n ∷ []
+      → more ≡ composedSize o (word script at 8) → y ≡ put old (w + 8) (composedBytes o (composePixels script s at l))
       → z ≡ put y w (wordsBytes ((1 + more / 4) ∷ n ∷ [])) → w + 8 + word script at 8 ≤ length old → z ≡ put old w composeSaid
   compose-written old w o n more {y} {z} e is m p q h =
-      let bytes = composeBytes script s at l in
+      let bytes = composePixels script s at l in
       let long : length (composedBytes o bytes) ≡ composedSize o (word script at 8) =
       subst (λ (r : Composed). length (composedBytes r bytes) ≡ composedSize r (word script at 8)) (sym e) composed-bytes-long
       in

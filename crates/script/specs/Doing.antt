@@ -5,8 +5,8 @@ use mathlib.Core.Bool.{Bool, false}
 use mathlib.Core.List.{List, []}
 use mathlib.Core.Path.{_≡_}
 use lib.ListN.{length}
-use Rattle.compose.specs.declared.image_exporter.Composed.the-variants.{Done, Refused}
 use Rattle.compose.specs.declared.image_exporter.Composed.{Composed}
+use Rattle.compose.specs.declared.image_exporter.Composed.the-variants.{Done, Refused}
 use Rattle.wire.specs.Bytes.{put}
 use Rattle.wire.specs.Saying.{Says}
 use Rattle.script.specs.Stepping.{Stepped, GoesOn, Stops}

@@ -10,8 +10,8 @@ use Rattle.records.specs.declared.layout.Layout.{Layout}
 use Rattle.lookup.specs.Reading.{read, readNumbers, partRead, partBytes}
 use Rattle.compose.specs.Checking.{checkedRows, checkedNumbers}
 use Rattle.compose.specs.Composing.{composedAnswer, composedBuffer, composedNumbers}
-use Rattle.compose.specs.declared.image_exporter.Composed.the-variants.{Done, Refused}
 use Rattle.compose.specs.declared.image_exporter.Composed.{Composed}
+use Rattle.compose.specs.declared.image_exporter.Composed.the-variants.{Done, Refused}
 use Rattle.wire.specs.Bytes.{wordsBytes}
 use Rattle.wire.specs.Fields.{isField, layoutWith}
 use Rattle.commands.specs.Reading.{word, pageAt, keyAt, backgroundAt}
@@ -54,12 +54,12 @@ unfoldable pub telling : ℕ → List ℕ → ℕ → ℕ → Told → Stepped
 telling room said at command t = saying room said (t .layout) (nextAt at command) (answerBytes (t .numbers) [])
 
 -- compose rows: page, background (4 words), first, rows, length. It lends a part of `length` bytes; what they are does not count.
-unfoldable pub composeAnswer : List ℕ → Stores → ℕ → Layout → Composed
-composeAnswer script s at l =
+unfoldable pub composeOutcome : List ℕ → Stores → ℕ → Layout → Composed
+composeOutcome script s at l =
     composedAnswer l s (pageAt script at) (word script at 6) (word script at 7) (replicate (word script at 8) 0)
 
-unfoldable pub composeBytes : List ℕ → Stores → ℕ → Layout → List ℕ
-composeBytes script s at l =
+unfoldable pub composePixels : List ℕ → Stores → ℕ → Layout → List ℕ
+composePixels script s at l =
     composedBuffer l s (pageAt script at) (backgroundAt script (at + 8)) (word script at 6) (word script at 7)
     (replicate (word script at 8) 0)
 
@@ -68,8 +68,8 @@ unfoldable pub composeStep : List ℕ → Stores → ℕ → List ℕ → ℕ �
 composeStep script s room said at l =
     cond (leb (length said + 8 + word script at 8 + 12) room)
     (GoesOn l (nextAt at 6)
-    (answerBytes (composedNumbers (composeAnswer script s at l))
-    (composedBytes (composeAnswer script s at l) (composeBytes script s at l))))
+    (answerBytes (composedNumbers (composeOutcome script s at l))
+    (composedBytes (composeOutcome script s at l) (composePixels script s at l))))
     (Stops 3)
 
 -- check rows: page, background (4 words), first, rows, source, start, length. A source is 0 the script itself, 1 the answers written so far, 2 the

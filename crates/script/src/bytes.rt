@@ -6,7 +6,7 @@ ghost use Rattle.art.specs.Stores.{lent};
 ghost use Rattle.wire.specs.Bytes.{put};
 ghost use Rattle.commands.specs.Reading.{word};
 ghost use Rattle.commands.specs.Taking.{There};
-ghost use Rattle.script.specs.Stepping.{composedBytes, composeAnswer, composeBytes, composeStep, rowStep};
+ghost use Rattle.script.specs.Stepping.{composedBytes, composeOutcome, composePixels, composeStep, rowStep};
 ghost use Rattle.script.specs.Doing.{Does, composedSize};
 use crate::steps;
 use crate::steps::Step;
@@ -31,8 +31,8 @@ fn compose_in<'a>(
     e: usize,
 ) -> Composed
     requires { ⌜ There (now script) at 8 × (e ≡ a + word (now script) at 8) × (e ≤ length (now answers)) ⌝ }
-    ensures { λ r. ⌜ r ≡ composeAnswer (now (script .entry)) (lent (now (symbols .entry)) (now (wording .entry))) at l ⌝ }
-    ensures { λ r. ⌜ now (answers .exit) ≡ put (now (answers .entry)) a (composedBytes r (composeBytes (now (script .entry)) (lent (now (symbols .entry)) (now (wording .entry))) at l)) ⌝ }
+    ensures { λ r. ⌜ r ≡ composeOutcome (now (script .entry)) (lent (now (symbols .entry)) (now (wording .entry))) at l ⌝ }
+    ensures { λ r. ⌜ now (answers .exit) ≡ put (now (answers .entry)) a (composedBytes r (composePixels (now (script .entry)) (lent (now (symbols .entry)) (now (wording .entry))) at l)) ⌝ }
 {
     let page = Page(words::word_at(script, at + 4));
     let background = commands::background_at(script, at + 8);

@@ -5,10 +5,10 @@ ghost use Rattle.art.specs.Stores.{lent};
 ghost use Rattle.wire.specs.Bytes.{put};
 ghost use Rattle.script.specs.Running.{ran};
 
-pub mod bytes;
-pub mod checking;
-pub mod running;
-pub mod steps;
+mod bytes;
+mod checking;
+mod running;
+mod steps;
 
 // How many bytes of the answers were written.
 pub fn run<'a>(script: &'a [u8], symbols: &'a [u8], wording: &'a [u8], answers: &mut [u8]) -> usize

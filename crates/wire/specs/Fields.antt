@@ -5,10 +5,10 @@ use mathlib.Core.Bool.{Bool, cond, not, _&&_, _||_}
 use lib.Dec.{leb, ltb, eqb}
 use lib.ListN.{getD, set}
 use Rattle.geometry.specs.declared.rect.Rect.{Rect}
-use Rattle.geometry.specs.declared.spot.Turn.the-variants.{Upright, Turned}
 use Rattle.geometry.specs.declared.spot.Turn.{Turn}
-use Rattle.art.specs.declared.memory_rgba8_texture.Store.the-variants.{Symbols, Wording}
+use Rattle.geometry.specs.declared.spot.Turn.the-variants.{Upright, Turned}
 use Rattle.art.specs.declared.memory_rgba8_texture.Store.{Store}
+use Rattle.art.specs.declared.memory_rgba8_texture.Store.the-variants.{Symbols, Wording}
 use Rattle.records.specs.Settings.{blankRecord}
 use Rattle.records.specs.declared.frame.Record.{Record}
 use Rattle.records.specs.declared.frame.Source.{Source}

@@ -2,8 +2,8 @@
 use mathlib.Core.Bool.{false, not, true}
 use mathlib.Core.Path.{_≡_, refl, sym, _∙_, subst}
 use lib.Dec.{T}
-use lib.Ieee.Bits.{nanBits-is}
 use lib.Ieee.{div, ofBits, nanBits, binary32, nan}
+use lib.Ieee.Bits.{nanBits-is}
 use borrow.Author.Needs.{needs}
 use Rattle.commands.proofs.Tells.{one-nan}
 use Rattle.commands.proofs.number_of_bits.Statement.{statement}

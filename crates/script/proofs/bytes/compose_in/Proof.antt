@@ -7,7 +7,7 @@ use Rattle.art.specs.Stores.{lent}
 use Rattle.compose.specs.Composing.{composedAnswer, composedBuffer}
 use Rattle.wire.specs.Bytes.{put}
 use Rattle.commands.specs.Reading.{pageAt, backgroundAt, word}
-use Rattle.script.specs.Stepping.{composeAnswer, composeBytes, composedBytes}
+use Rattle.script.specs.Stepping.{composeOutcome, composePixels, composedBytes}
 use Rattle.script.proofs.Composing.{lent-answer, lent-bytes}
 use Rattle.script.proofs.bytes.compose_in.Statement.{statement}
 use Rattle.script.proofs.bytes.compose_in.Tie as tie
@@ -52,7 +52,7 @@ same-length : tie.Need-same-length
 same-length c = search needs
 
 returns : tie.Need-returns
-unfolding composeAnswer composeBytes pageAt
+unfolding composeOutcome composePixels pageAt
 returns c =
     let a = c .before .before .before .before .before .before .before .before .before .before .before .before .args in
     let pre = c .before .before .before .before .before .before .before .before .before .before .before .before .pre in
@@ -72,7 +72,7 @@ returns c =
     ∙ lent-answer (a .l) s page k first rows size (a .a) (a .e) old v (pre .1) (pre .2) n in
     let q = p .ensures .1 .1
     ∙ (λ i. composedBuffer (a .l) s (record { 0 = c .before .before .before .before .before .before .before .word-at .ensures i }) (c .before .before .before .before .before .before .background-at .ensures i) (c .before .before .before .before .before .word-at2 .ensures i) (c .before .before .before .before .word-at3 .ensures i) lent-part) in
-    (o, lent-bytes (a .l) s page k first rows size (a .a) (a .e) old v (pre .1) (pre .2) n q ∙ ap (λ r. put old (a .a) (composedBytes r (composeBytes (a .script .now) s (a .at) (a .l)))) (sym o))
+    (o, lent-bytes (a .l) s page k first rows size (a .a) (a .e) old v (pre .1) (pre .2) n q ∙ ap (λ r. put old (a .a) (composedBytes r (composePixels (a .script .now) s (a .at) (a .l)))) (sym o))
 
 pub compose-in-spec : {M : Type 1} → statement M
 compose-in-spec =
