@@ -1,4 +1,4 @@
-// A page in bands: as many rows at a time as the buffer holds.
+// A page in bands, each of as many rows as the buffer holds.
 ghost use mathlib.Core.Path.{_≡_};
 ghost use Prim.Native.Nat.{_+_, _*_, _≤_};
 ghost use lib.ListN.{length};
