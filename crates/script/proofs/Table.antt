@@ -12,7 +12,7 @@ use Rattle.records.specs.Layouts.{standing, unused, wellFormed, hasKey, recordO
 use Rattle.records.specs.Operations.{openRow, openRefusal, opened, noSuchPage, sizeRow, sizeRefusal, pageSized}
 use Rattle.records.specs.Records.{allZero, isBlank, sizeOf, wholeOf, boxOf, imageOf, liesIn, boxInside, recordWellFormed}
 use Rattle.records.specs.Refusals.{firstOf}
-use Rattle.records.specs.Samples.{bit, recordNumbers, configNumbers}
+use Rattle.records.specs.Samples.{bit, recordNumbers, configNumbers, layoutNumbers}
 use Rattle.records.specs.Settings.{inBounds, blankConfig, blankRecord, emptyLayout}
 use Rattle.rules.specs.Faithful.{keysDiffer, artOf, sameSpot, placedSo, wholeIfUntrimmed, faithful}
 use Rattle.rules.specs.Operations.{badSize, askRefusal, fitsPage, asked, artFor, fitsEmpty, tooLarge, pagesFull, offerRefusal, withRecord, offered, withdrawRefusal, withoutLatest, withdrawn}
@@ -32,17 +32,17 @@ use Rattle.commands.specs.Taking.{wordsOf}
 use Rattle.commands.specs.Telling.{openTold, askTold, offerTold, withdrawTold, sizeTold, pixelTold, locateTold}
 use Rattle.script.specs.Running.{ranFrom, ran}
 use Rattle.script.specs.Stepping.{answerBytes, endBytes, saying, nextAt, telling, composeOutcome, composePixels, composeStep, checkSource, checkPast, checkNumbers, checkStep, rowStep, setStep, dataStep, commandStep, stepped}
-use Rattle.script.specs.Table.{Line, pixels, stores, runIn, runs, byteLines, opening, offering, opened as scriptOpened, placedAt, afterwards, said, commandLines, saidBytes, composing, composeOver, checking, rowLines, checkLines, setLines, setFrom, fieldLines, table}
+use Rattle.script.specs.Table.{Line, pixels, stores, runIn, runs, byteLines, opening, offering, opened as scriptOpened, placedAt, afterwards, said, commandLines, saidBytes, composing, composeOver, checking, rowLines, checkLines, setLines, only1, with1, fieldLines, table}
 
 -- every rule, opening
 rules : Unit {0}
-unfolding ofBits toBits ofInt add sub div le from allOf all any only earliest greatest flat before onSpan atEnd holdsPoint onOutline height isStart startsFrom segment top lying cellAt spotAt inside orientations fittingAt candidatesFrom rank better bestOf spotFor bytesOf runsPast placeOf pixelFrom pixelIn uprightPixel turnedPoint turnedPixel visible columnVisible rowVisible allClear firstSeen pastSeen smallestBox wholeBox trimBox firstOf inBounds blankConfig blankRecord emptyLayout allZero isBlank sizeOf wholeOf boxOf imageOf liesIn boxInside recordWellFormed standing unused wellFormed hasKey recordOf recordNamed onPage pageCount endsOf sizeOfPage openRow openRefusal opened noSuchPage sizeRow sizeRefusal pageSized canvas margin cellSize spotOn cellOf cellsOn firstPage pageFor recordAt recordFor placed keysDiffer artOf sameSpot placedSo wholeIfUntrimmed faithful badSize askRefusal fitsPage asked artFor fitsEmpty tooLarge pagesFull offerRefusal withRecord offered withdrawRefusal withoutLatest withdrawn zone reaches owner local boxPixel red framePixel pixelOf pixelAmong pixelAt pagePast lookRefusal looked readRefusal read rowPart emptyPart partRead partBytes clearPixel solid composed bytes line picture composedAt band emptyPage badRows badLength bandRefusal composedAnswer composedBuffer samePixel differs columnOff rowOff compared checkedRows corners namedPageSize between pastEdge locateRow locateRefusal located bit recordNumbers configNumbers wordAt wordBytes wordsBytes isOn storeOf turnOf picked configWith frameWith sourceWith recordWith isField withConfig withCount withRecordAt layoutWith configAt pageAt sizeAt keyAt imageAt requestOf colourOf thresholdOf backgroundAt wordsOf openTold askTold offerTold withdrawTold sizeTold pixelTold locateTold answerBytes endBytes saying nextAt telling composeOutcome composePixels composeStep checkSource checkPast checkNumbers checkStep rowStep setStep dataStep commandStep stepped ranFrom ran pixels stores runIn runs byteLines opening offering scriptOpened placedAt afterwards said commandLines saidBytes composing composeOver checking rowLines checkLines setLines setFrom fieldLines table
+unfolding ofBits toBits ofInt add sub div le from allOf all any only earliest greatest flat before onSpan atEnd holdsPoint onOutline height isStart startsFrom segment top lying cellAt spotAt inside orientations fittingAt candidatesFrom rank better bestOf spotFor bytesOf runsPast placeOf pixelFrom pixelIn uprightPixel turnedPoint turnedPixel visible columnVisible rowVisible allClear firstSeen pastSeen smallestBox wholeBox trimBox firstOf inBounds blankConfig blankRecord emptyLayout allZero isBlank sizeOf wholeOf boxOf imageOf liesIn boxInside recordWellFormed standing unused wellFormed hasKey recordOf recordNamed onPage pageCount endsOf sizeOfPage openRow openRefusal opened noSuchPage sizeRow sizeRefusal pageSized canvas margin cellSize spotOn cellOf cellsOn firstPage pageFor recordAt recordFor placed keysDiffer artOf sameSpot placedSo wholeIfUntrimmed faithful badSize askRefusal fitsPage asked artFor fitsEmpty tooLarge pagesFull offerRefusal withRecord offered withdrawRefusal withoutLatest withdrawn zone reaches owner local boxPixel red framePixel pixelOf pixelAmong pixelAt pagePast lookRefusal looked readRefusal read rowPart emptyPart partRead partBytes clearPixel solid composed bytes line picture composedAt band emptyPage badRows badLength bandRefusal composedAnswer composedBuffer samePixel differs columnOff rowOff compared checkedRows corners namedPageSize between pastEdge locateRow locateRefusal located bit recordNumbers configNumbers layoutNumbers wordAt wordBytes wordsBytes isOn storeOf turnOf picked configWith frameWith sourceWith recordWith isField withConfig withCount withRecordAt layoutWith configAt pageAt sizeAt keyAt imageAt requestOf colourOf thresholdOf backgroundAt wordsOf openTold askTold offerTold withdrawTold sizeTold pixelTold locateTold answerBytes endBytes saying nextAt telling composeOutcome composePixels composeStep checkSource checkPast checkNumbers checkStep rowStep setStep dataStep commandStep stepped ranFrom ran pixels stores runIn runs byteLines opening offering scriptOpened placedAt afterwards said commandLines saidBytes composing composeOver checking rowLines checkLines setLines only1 with1 fieldLines table
 rules = tt
 
 pub table-holds : map (λ (l : Line). l .0) table ≡ map (λ (l : Line). l .1) table
 unfolding rules
 table-holds = refl
 
-pub table-lines : length table ≡ 53
+pub table-lines : length table ≡ 54
 unfolding rules
 table-lines = refl

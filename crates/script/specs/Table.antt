@@ -1,15 +1,17 @@
 -- Scripts of our own that tell wrong readings of docs/SCRIPT.md apart: beside the bytes that a script is answered stands what they must be, worked out by
 -- hand.
 -- Assumes nothing.
-use Prim.Native.Nat.{ℕ, zero, suc, _+_}
+use Prim.Native.Nat.{ℕ, _-_}
 use mathlib.Core.List.{List, [], _∷_, _++_}
-use lib.ListN.{getD}
+use lib.ListN.{getD, replicate}
+use Rattle.geometry.specs.Words.{from, flat}
 use Rattle.art.specs.Stores.{Stores, lent}
-use Rattle.records.specs.Samples.{recordNumbers, configNumbers}
+use Rattle.records.specs.Samples.{recordNumbers, configNumbers, layoutNumbers}
 use Rattle.records.specs.Settings.{blankConfig, blankRecord, emptyLayout}
 use Rattle.records.specs.declared.layout.Layout.{Layout}
 use Rattle.wire.specs.Bytes.{wordsBytes}
 use Rattle.wire.specs.Fields.{layoutWith}
+use Rattle.commands.specs.Reading.{configAt}
 use Rattle.script.specs.Running.{ran}
 
 -- the bytes that are answered, and what they must be
@@ -82,11 +84,11 @@ commandLines =
     -- no page yet
     ∷ (runs (opening ++ 1 ∷ 0 ∷ 1 ∷ 1 ∷ []), wordsBytes (opened ++ 1 ∷ 11 ∷ 2 ∷ 0 ∷ 64 ∷ []))
     ∷ (afterwards [], said [] 0 72)
-    -- 3 columns and 5 rows find no room beside the image, 4 columns and 3 rows do; there is no second page
-    ∷ (afterwards (1 ∷ 0 ∷ 3 ∷ 5 ∷ []), said (2 ∷ 0 ∷ 0 ∷ []) 0 88)
+    -- 3 columns and 4 rows find no room beside the image, 4 columns and 3 rows do, below it; there is no second page
+    ∷ (afterwards (1 ∷ 0 ∷ 3 ∷ 4 ∷ []), said (2 ∷ 0 ∷ 0 ∷ []) 0 88)
     ∷ (afterwards (1 ∷ 0 ∷ 4 ∷ 3 ∷ []), said (2 ∷ 0 ∷ 1 ∷ []) 0 88)
     ∷ (afterwards (1 ∷ 1 ∷ 4 ∷ 3 ∷ []), said (1 ∷ 11 ∷ []) 0 88)
-    -- the key stands; the wording store's first 4 bytes, from its second byte on, are another image
+    -- the key stands; four bytes of the wording store, from its second byte on, are another image
     ∷ (afterwards offering, said (1 ∷ 6 ∷ []) 0 96)
     ∷ (afterwards (2 ∷ 8 ∷ 1 ∷ 1 ∷ 1 ∷ 1 ∷ 5 ∷ 0 ∷ 2 ∷ 0 ∷ []), said (placedAt 2 0 1 1 ++ 6 ∷ 0 ∷ 1 ∷ 2 ∷ 3 ∷ 4 ∷ 5 ∷ []) 0 112)
     ∷ (afterwards (3 ∷ 3 ∷ []), said (2 ∷ 0 ∷ 7 ∷ 1 ∷ 18 ∷ []) 0 80)
@@ -169,16 +171,22 @@ setLines =
     ∷ (afterwards (11 ∷ 2 ∷ 3 ∷ []), said [] 2 72)
     ∷ []
 
--- every field of the record in place 3 and of the configuration, each with a number of its own
-unfoldable pub setFrom : ℕ → ℕ → Layout → Layout
-setFrom zero field l = l
-setFrom (suc n) field l = setFrom n (suc field) (layoutWith l field 3 (100 + field))
+-- of n numbers the one at place k is 1, the others 0
+unfoldable pub only1 : ℕ → ℕ → List ℕ
+only1 n k = replicate k 0 ++ 1 ∷ replicate (n - k - 1) 0
+
+-- the blank layout with 1 written to a field, of the record in place 3
+unfoldable pub with1 : ℕ → Layout
+with1 field = layoutWith (emptyLayout blankConfig) field 3 1
 
 unfoldable pub fieldLines : List Line
 fieldLines =
-    (recordNumbers (getD (setFrom 14 16 (emptyLayout blankConfig) .records) 3 blankRecord), 116 ∷ 117 ∷ 118 ∷ 119 ∷ 120 ∷ 121 ∷ 1 ∷ 1 ∷ 124 ∷ 125 ∷ 126 ∷ 127 ∷ 1 ∷ 129 ∷ [])
-    ∷ (configNumbers (setFrom 12 0 (emptyLayout blankConfig) .config), 100 ∷ 101 ∷ 102 ∷ 103 ∷ 104 ∷ 105 ∷ 106 ∷ 1 ∷ 1 ∷ 1 ∷ 1 ∷ [])
-    ∷ (setFrom 12 0 (emptyLayout blankConfig) .count ∷ [], 111 ∷ [])
+    -- open's words
+    (configNumbers (configAt (wordsBytes (0 ∷ 21 ∷ 22 ∷ 23 ∷ 24 ∷ 25 ∷ 26 ∷ 27 ∷ 1 ∷ 0 ∷ 2 ∷ 0 ∷ [])) 0), 21 ∷ 22 ∷ 23 ∷ 24 ∷ 25 ∷ 26 ∷ 27 ∷ 1 ∷ 0 ∷ 1 ∷ 0 ∷ [])
+    -- each of the record's 14 fields and of the configuration's 11 by itself, and the count
+    ∷ (flat (λ f. recordNumbers (getD (with1 f .records) 3 blankRecord)) (from 16 14), flat (only1 14) (from 0 14))
+    ∷ (flat (λ f. configNumbers (with1 f .config)) (from 0 11), flat (only1 11) (from 0 11))
+    ∷ (layoutNumbers (with1 11), only1 3596 11)
     ∷ []
 
 unfoldable pub table : List Line
