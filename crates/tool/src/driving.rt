@@ -65,6 +65,30 @@ fn say_laid(program: Program, path: &[u8], ready: Ready, laid: Laid) {
     placing::say_stop(path, ready.job, stop);
 }
 
+fn say_images_and_pages(l: Layout) {
+    telling::say_number(l.count as u64);
+    telling::say(b" images on ");
+    telling::say_number(page_folder::count_pages(l) as u64);
+    telling::say(b" pages\n");
+}
+
+fn say_good(program: Program, path: &[u8], l: Layout) {
+    telling::say(path);
+    match program {
+        Program::Pack => telling::say(b": packed, "),
+        Program::Verify => telling::say(b": verified, "),
+    }
+    say_images_and_pages(l);
+}
+
+fn say_bad(program: Program, path: &[u8]) {
+    telling::say(path);
+    match program {
+        Program::Pack => telling::say(b": NOT PACKED\n"),
+        Program::Verify => telling::say(b": NOT VERIFIED\n"),
+    }
+}
+
 // A refused image ends it before any page is written.
 fn do_job<'a>(
     program: Program,
@@ -83,7 +107,7 @@ fn do_job<'a>(
     if !laying::goes_on(stop) {
         return false;
     }
-    do_pages(
+    let good = do_pages(
         program,
         folder,
         buf,
@@ -91,27 +115,11 @@ fn do_job<'a>(
         symbols,
         wording,
         background,
-    )
-}
-
-fn say_end(program: Program, path: &[u8], good: bool) {
-    telling::say(path);
-    match program {
-        Program::Pack => {
-            if good {
-                telling::say(b": packed\n")
-            } else {
-                telling::say(b": NOT PACKED\n")
-            }
-        }
-        Program::Verify => {
-            if good {
-                telling::say(b": verified\n")
-            } else {
-                telling::say(b": NOT VERIFIED\n")
-            }
-        }
+    );
+    if good {
+        say_good(program, path, laid.layout);
     }
+    good
 }
 
 fn prepare_and_do<'a>(
@@ -127,7 +135,7 @@ fn prepare_and_do<'a>(
 ) {
     let ready = preparing::prepare(job_name, symbols_name, wording_name, text, symbols, wording);
     if !ready.good {
-        say_end(program, job_name, false);
+        say_bad(program, job_name);
         return;
     }
     let good = do_job(
@@ -139,7 +147,9 @@ fn prepare_and_do<'a>(
         &wording[..ready.wording],
         ready,
     );
-    say_end(program, job_name, good);
+    if !good {
+        say_bad(program, job_name);
+    }
 }
 
 // The job whose four names begin at argument i: the job, the two stores, the folder.

@@ -1,4 +1,5 @@
 // All pages of a job that is laid out, on disk. They are written and read back under fresh names, and only then put in the place of older ones.
+ghost use Prim.Native.Nat.{_≤_};
 use crate::bands;
 use crate::files;
 use crate::page_files;
@@ -172,4 +173,24 @@ pub fn each_page<'a>(
         n += 1;
     }
     good
+}
+
+fn one_if_there(l: Layout, page: Page) -> u32
+    ensures { λ r. ⌜ r ≤ 1 ⌝ }
+{
+    match layouts::page_size(l, page) {
+        Sized::Is(_) => 1,
+        Sized::Refused(_) => 0,
+    }
+}
+
+pub fn count_pages(l: Layout) -> u32 {
+    let mut pages: u32 = 0;
+    let mut n: u32 = 0;
+    while n < 8 {
+        let there = one_if_there(l, Page(n));
+        pages += there;
+        n += 1;
+    }
+    pages
 }
