@@ -66,10 +66,11 @@ fn say_laid(program: Program, path: &[u8], ready: Ready, laid: Laid) {
 }
 
 fn say_images_and_pages(l: Layout) {
+    telling::say(b"images: ");
     telling::say_number(l.count as u64);
-    telling::say(b" images on ");
+    telling::say(b", pages: ");
     telling::say_number(page_folder::count_pages(l) as u64);
-    telling::say(b" pages\n");
+    telling::say(b"\n");
 }
 
 fn say_good(program: Program, path: &[u8], l: Layout) {
