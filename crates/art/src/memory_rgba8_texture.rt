@@ -4,14 +4,14 @@ ghost use Rattle.std.specs.Prelude.{◌≡◌, ◌+◌, ◌<◌, length};
 ghost use Rattle.art.specs.Stores.{lent, of_store, runs_past, pixel_from, pixel_in, InStore};
 
 // Fixed symbols, and wording of one language.
-#[derive(Drop)]
+#[derive(Clone, Copy)]
 pub enum Store {
     Symbols,
     Wording,
 }
 
 // Rows follow each other from the offset on, 4 bytes a pixel.
-#[derive(Drop)]
+#[derive(Clone, Copy)]
 pub struct Image {
     pub store: Store,
     pub offset: u32,
@@ -19,7 +19,7 @@ pub struct Image {
     pub h: u32,
 }
 
-#[derive(Drop)]
+#[derive(Clone, Copy)]
 pub struct Pixel {
     pub r: u8,
     pub g: u8,

@@ -9,14 +9,14 @@ use crate::texture::{is_column_transparent, is_row_transparent};
 use geometry::rect::Rect;
 
 // What is left of an image when it is trimmed.
-#[derive(Drop)]
+#[derive(Clone, Copy)]
 pub enum Trimmed {
     AllClear,
     To(Rect),
 }
 
 // An image taken as its columns or as its rows.
-#[derive(Drop)]
+#[derive(Clone, Copy)]
 enum Lines {
     Columns,
     Rows,

@@ -1,5 +1,7 @@
 // The commands whose answer is words alone. Each reads its words from byte `at` of the script on, which names the command; `run` has asked that
 // they are there.
+#![tactic(auto)]
+
 ghost use Rattle.std.specs.Prelude.{◌≡◌, ◌+◌, ◌≤◌, ◌<◌, length};
 ghost use Rattle.std.specs.Float.{binary32};
 ghost use Rattle.std.specs.Float.Ieee.{of_bits};
@@ -24,7 +26,7 @@ use wire::answers::Answer;
 use wire::{answers, fields, words};
 
 // An answer, and the layout that goes along.
-#[derive(Drop)]
+#[derive(Clone, Copy)]
 pub struct Outcome {
     pub answer: Answer,
     pub layout: Layout,

@@ -131,7 +131,7 @@ module _ (f : ℕ → ℕ → Pixel) (w first n : ℕ) (shown : List ℕ) where
       first-differs f w first n shown o.row x o.within (λ v p. full v p) here o.column ∙ ap (Differs x) (sym o.page-row)
     where
       full : (v : ℕ) → v < o.row → column_off f w first n shown v ≡ w
-      full v p = first-none (differs f shown (v * w) (first + v)) w (λ k q. agreed f shown (v * w) (first + v) k (o.earlier-rows k v p q))
+      full v p = first-none (differs f shown (v * w) (first + v)) w (λ k q. agreed f shown (v * w) (first + v) k (o.earlier_rows k v p q))
 
       passes : (b : Bool) → differs f shown (o.row * w) (first + o.row) x ≡ b → differs f shown (o.row * w) (first + o.row) x ≡ true
       passes true e = e
@@ -142,5 +142,5 @@ module _ (f : ℕ → ℕ → Pixel) (w first n : ℕ) (shown : List ℕ) where
           first-is (differs f shown (o.row * w) (first + o.row)) w x (record {
             below = o.column;
             passes = passes (differs f shown (o.row * w) (first + o.row) x) refl;
-            before = λ k p. agreed f shown (o.row * w) (first + o.row) k (o.earlier-columns k p ∙ ap (f k) o.page-row);
+            before = λ k p. agreed f shown (o.row * w) (first + o.row) k (o.earlier_columns k p ∙ ap (f k) o.page-row);
           })

@@ -19,7 +19,7 @@ use records::layout;
 use records::layout::Layout;
 use records::refusal::Refusal;
 
-#[derive(Drop)]
+#[derive(Clone, Copy)]
 pub enum Checked {
     Same,
     Differs(u32, u32),

@@ -13,7 +13,7 @@ use records::layout;
 use records::layout::Layout;
 use records::refusal::Refusal;
 
-#[derive(Drop)]
+#[derive(Clone, Copy)]
 pub enum Composed {
     Done,
     Refused(Refusal),

@@ -91,7 +91,7 @@ sides l k e t p =
     let small = framed l.config (record_named l k) (named-good l k e t) in
     let right : f.x + f.w ≤ s.w = ltb-false _ _ (or_no_left (ltb s.w (f.x + f.w)) (ltb s.h (f.y + f.h)) p) in
     let bottom : f.y + f.h ≤ s.h = ltb-false _ _ (or_no_right (ltb s.w (f.x + f.w)) (ltb s.h (f.y + f.h)) p) in
-    record { wide = omega (arith, small.some-w); tall = omega (arith, small.some-h) }
+    record { wide = omega (arith, small.some_w); tall = omega (arith, small.some_h) }
 
 -- ## a page that is not forced ends no earlier than its frames
 
@@ -105,8 +105,8 @@ module _ (l : Layout) (k : Key) (e : well_formed l ≡ true) (t : any (has_key k
   free_inside =
       let p = (record_named l k).page in
       let f = framed l.config (record_named l k) (named-good l k e t) in
-      let w = le-ltb (size_of_page l p).w ((record_named l k).frame.x + (record_named l k).frame.w) (omega (arith, f.some-w, width-holds l p free (record_named l k) on_page_lem)) in
-      let h = le-ltb (size_of_page l p).h ((record_named l k).frame.y + (record_named l k).frame.h) (omega (arith, f.some-h, height-holds l p free (record_named l k) on_page_lem)) in
+      let w = le-ltb (size_of_page l p).w ((record_named l k).frame.x + (record_named l k).frame.w) (omega (arith, f.some_w, width-holds l p free (record_named l k) on_page_lem)) in
+      let h = le-ltb (size_of_page l p).h ((record_named l k).frame.y + (record_named l k).frame.h) (omega (arith, f.some_h, height-holds l p free (record_named l k) on_page_lem)) in
       rw (w, h)
 
   pub free_never : (q : Request) → out_of_page q (record_named l k).frame (named_page_size l k) ≡ false

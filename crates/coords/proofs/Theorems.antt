@@ -56,7 +56,7 @@ module _ (l : Layout) (k : Key) (q : Request) where
   abbrev sixteen : Check
   sixteen = (out_of_page q (record_named l k).frame (named_page_size l k), PastPage)
 
-  -- not well_formed_lem
+  -- not well_formed
   pub locate_2 : located l k q ≡ Refused NotWellFormed ↔ well_formed l ≡ false
   unfolding locate_refusal locate_row
   locate_2 =
@@ -107,6 +107,7 @@ module _ (l : Layout) (k : Key) (q : Request) where
 
 -- "16 .. (not asked for pixel answers)": pixels are refused for 2 and 15 only
 pub pixels-only : (l : Layout) (k : Key) (r : Refusal) → located l k AskPixels ≡ Refused r → (r ≡ NotWellFormed) ⊎ (r ≡ NoSuchKey)
+go (mathlib.Core.List.Memᴰ.tail (mathlib.Core.List.Memᴰ.tail (mathlib.Core.List.Memᴰ.tail (mathlib.Core.List.Memᴰ.tail x16)))) = elim x16 [ ]
 pixels-only l k r e = go (locate_only l k AskPixels r e)
   where
     never : {A : Type 0} → false ≡ true → A

@@ -1,2 +1,4 @@
 // Texture coordinates of a standing image.
+#![tactic(auto)]
+
 pub mod locate;

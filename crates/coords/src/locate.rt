@@ -9,7 +9,7 @@ use records::layout;
 use records::layout::Layout;
 use records::refusal::Refusal;
 
-#[derive(Drop)]
+#[derive(Clone, Copy)]
 pub struct Corners {
     pub left: f32,
     pub top: f32,
@@ -17,14 +17,14 @@ pub struct Corners {
     pub bottom: f32,
 }
 
-#[derive(Drop)]
+#[derive(Clone, Copy)]
 pub enum Request {
     Pixels,
     Edges,
     Inset(f32),
 }
 
-#[derive(Drop)]
+#[derive(Clone, Copy)]
 pub enum Located {
     Pixels(Rect),
     Texels(Corners),

@@ -125,7 +125,7 @@ unfolding whole_of
 sized_whole c r s e g =
     let w : s.w ≡ r.source.w = ap (λ (z : Size). z.w) e in
     let h : s.h ≡ r.source.h = ap (λ (z : Size). z.h) e in
-    record { some_w = omega (arith, g.whole-w); some_h = omega (arith, g.whole-h); few_w = omega (arith, g.whole-w-few); few_h = omega (arith, g.whole-h-few) }
+    record { some_w = omega (arith, g.whole_w); some_h = omega (arith, g.whole_h); few_w = omega (arith, g.whole_w_few); few_h = omega (arith, g.whole_h_few) }
 
 pub sized_box : (c : Config) (r : Record) (k : Rect) → k ≡ box_of r → Good c r → Sized (record { w = k.w; h = k.h })
 sized_box c r k e g =
@@ -133,10 +133,10 @@ sized_box c r k e g =
     let h : k.h ≡ (box_of r).h = ap (λ (z : Rect). z.h) e in
     let i = g.inside in
     record {
-      some_w = omega (arith, i.some-w);
-      some_h = omega (arith, i.some-h);
-      few_w = omega (arith, i.in-w, g.whole-w-few);
-      few_h = omega (arith, i.in-h, g.whole-h-few);
+      some_w = omega (arith, i.some_w);
+      some_h = omega (arith, i.some_h);
+      few_w = omega (arith, i.in_w, g.whole_w_few);
+      few_h = omega (arith, i.in_h, g.whole_h_few);
     }
 
 pub box_cell : (c : Config) (r : Record) (k : Rect) (cell : Size) → k ≡ box_of r → cell ≡ cell_size c (record { w = k.w; h = k.h }) → cell ≡ cell_size c (size_of (box_of r))

@@ -72,7 +72,7 @@ module _ (l : Layout) (long : length l.records ≡ 256) (f : Formed l) (d : Reco
           stands = rp.after e;
           count = ep ∙ ap (λ (n : ℕ). max n ((get_or l.records i d).page.0 + 1)) sf.skies.count ∙ sym (count_snoc (take i (standing l)) (get_or l.records i d));
         });
-    pages_few = let g = standing-good l long f d i h in omega (arith, g.page, f.config.pages-few, sf.pages-few);
+    pages_few = let g = standing-good l long f d i h in omega (arith, g.page, f.config.pages_few, sf.pages_few);
   }
 
   pub sofar_done : (i pages : ℕ) (xs ys ns : List ℕ) → i ≡ l.count → Sofar l i pages xs ys ns → Ran l (record { so = true; pages = pages }) xs ys ns

@@ -13,7 +13,7 @@ use records::texture_packer_config::Config;
 use rules::placing::Art;
 
 // What one step of an offer comes to.
-#[derive(Drop)]
+#[derive(Clone, Copy)]
 pub enum Outcome {
     Full,
     Nowhere,

@@ -19,7 +19,7 @@ use records::layout::Layout;
 use records::texture_packer_config::Config;
 
 // Whether every record stands where the rule puts it, and how many pages there are.
-#[derive(Drop)]
+#[derive(Clone, Copy)]
 pub struct Stand {
     pub so: bool,
     pub pages: usize,

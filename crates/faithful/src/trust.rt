@@ -14,7 +14,7 @@ use records::layout::Layout;
 use records::texture_packer_config::Config;
 use records::{frame, layout};
 
-#[derive(Drop)]
+#[derive(Clone, Copy)]
 pub enum Trust {
     Unformed,
     Unfaithful,

@@ -6,14 +6,14 @@ ghost use Rattle.geometry.specs.Choice.{choice, lowest};
 
 use crate::rect::{Rect, Size};
 
-#[derive(Drop)]
+#[derive(Clone, Copy)]
 pub enum Turn {
     Upright,
     Turned,
 }
 
 // Where a cell goes: its rectangle, its bottom row, the width of the segment that it starts at, and how it lies.
-#[derive(Drop)]
+#[derive(Clone, Copy)]
 pub struct Spot {
     pub at: Rect,
     pub bottom: u32,
@@ -21,7 +21,7 @@ pub struct Spot {
     pub turn: Turn,
 }
 
-#[derive(Drop)]
+#[derive(Clone, Copy)]
 pub enum Found {
     Nothing,
     At(Spot),

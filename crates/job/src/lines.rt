@@ -10,7 +10,7 @@ use records::frame::Key;
 use records::texture_packer_config::Config;
 
 // Why a job is refused.
-#[derive(Drop)]
+#[derive(Clone, Copy)]
 pub enum Trouble {
     // The first word is none of config, background and image.
     UnknownWord,
@@ -26,7 +26,7 @@ pub enum Trouble {
     TooManyImages,
 }
 
-#[derive(Drop)]
+#[derive(Clone, Copy)]
 pub enum Line {
     Empty,
     Settings(Config),

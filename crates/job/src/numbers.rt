@@ -3,7 +3,7 @@ ghost use Rattle.std.specs.Prelude.{◌≡◌};
 ghost use Rattle.job.specs.Numbers.{number_in};
 ghost use Rattle.job.specs.Steps.{with_digit};
 
-#[derive(Drop)]
+#[derive(Clone, Copy)]
 pub enum Number {
     Is(u32),
     Not,

@@ -13,14 +13,14 @@ use records::texture_packer_config;
 use records::texture_packer_config::Config;
 
 // An image to offer, and the number of its line.
-#[derive(Drop)]
+#[derive(Clone, Copy)]
 pub struct Entry {
     pub key: Key,
     pub image: Image,
     pub line: usize,
 }
 
-#[derive(Drop)]
+#[derive(Clone, Copy)]
 pub struct Job {
     pub config: Config,
     // The number of the config line.
@@ -30,21 +30,21 @@ pub struct Job {
     pub count: usize,
 }
 
-#[derive(Drop)]
+#[derive(Clone, Copy)]
 pub enum Outcome {
     Done,
     // The trouble, and the number of its line.
     Refused(Trouble, usize),
 }
 
-#[derive(Drop)]
+#[derive(Clone, Copy)]
 pub struct Parsed {
     pub outcome: Outcome,
     pub job: Job,
 }
 
 // Before the config line; after it; after a background or an image; at the first trouble and its line.
-#[derive(Drop)]
+#[derive(Clone, Copy)]
 pub enum Stage {
     Start,
     Open,
@@ -52,7 +52,7 @@ pub enum Stage {
     Stopped(Trouble, usize),
 }
 
-#[derive(Drop)]
+#[derive(Clone, Copy)]
 pub struct State {
     pub stage: Stage,
     pub job: Job,

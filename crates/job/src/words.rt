@@ -5,7 +5,7 @@ ghost use Rattle.job.specs.Words.{split};
 ghost use Rattle.job.specs.Steps.{Lies};
 
 // A part of a line: from `from` to before `to`.
-#[derive(Drop)]
+#[derive(Clone, Copy)]
 pub struct Span {
     pub from: usize,
     pub to: usize,

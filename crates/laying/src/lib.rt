@@ -1,4 +1,6 @@
 // A job laid out: open, then an offer for each of its images, in its order; the first refusal ends it.
+#![tactic(auto)]
+
 ghost use Rattle.std.specs.Prelude.{◌≡◌};
 ghost use Rattle.art.specs.Stores.{lent};
 ghost use Rattle.laying.specs.Laying.{goes_on, stop_of, offered_one, offering, wanted, laid_out};
@@ -10,7 +12,7 @@ use records::layout::{Layout, Opened};
 use records::refusal::Refusal;
 use rules::multi_texture_packer::Offered;
 
-#[derive(Drop)]
+#[derive(Clone, Copy)]
 pub enum Stop {
     Nowhere,
     AtOpen(Refusal),
@@ -18,7 +20,7 @@ pub enum Stop {
     AtOffer(usize, Refusal),
 }
 
-#[derive(Drop)]
+#[derive(Clone, Copy)]
 pub struct Laid {
     pub stop: Stop,
     pub layout: Layout,

@@ -10,7 +10,7 @@ use records::layout::Layout;
 use records::refusal::Refusal;
 use records::{frame, layout};
 
-#[derive(Drop)]
+#[derive(Clone, Copy)]
 pub enum Read {
     Done,
     Refused(Refusal),

@@ -19,7 +19,7 @@ use records::refusal::Refusal;
 use records::texture_packer_config::Config;
 use records::{frame, layout};
 
-#[derive(Drop)]
+#[derive(Clone, Copy)]
 pub enum Looked {
     Shows(Pixel),
     NoPixel,

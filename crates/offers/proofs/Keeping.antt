@@ -41,10 +41,10 @@ sized_kept trim s i k e n q =
     let w : k.w ≡ (trim_box trim s i).w = ap (λ (j : Rect). j.w) q in
     let h : k.h ≡ (trim_box trim s i).h = ap (λ (j : Rect). j.h) q in
     record {
-      some_w = omega (arith, b.some-w);
-      some_h = omega (arith, b.some-h);
-      few_w = omega (arith, b.in-w, z.wide-few);
-      few_h = omega (arith, b.in-h, z.tall-few);
+      some_w = omega (arith, b.some_w);
+      some_h = omega (arith, b.some_h);
+      few_w = omega (arith, b.in_w, z.wide-few);
+      few_h = omega (arith, b.in_h, z.tall-few);
     }
 
 -- ## 8, by the sides

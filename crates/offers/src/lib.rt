@@ -1,4 +1,6 @@
 // An offer on the skylines that the standing records left: the checks past 2 and 3, and the step of the placing rule.
+#![tactic(auto)]
+
 ghost use Rattle.std.specs.Prelude.{◌≡◌, true, List, ◌≤◌, ◌<◌};
 ghost use Rattle.art.specs.Stores.{lent, InStore};
 ghost use Rattle.records.specs.Settings.{in_bounds};

@@ -1,5 +1,7 @@
 // Eight pages, each with its skyline: page p has the places from p * 258 on of two lent arrays, and its number of segments in a third.
 // The arrays are lent, 16 KB together, and never passed by value.
+#![tactic(auto)]
+
 ghost use Rattle.std.specs.Prelude.{◌≡◌, List, [], ℕ, ◌+◌, ◌≤◌, ◌<◌, length};
 ghost use Rattle.geometry.specs.Placing.{height, spot_for, is_found};
 ghost use Rattle.geometry.specs.Fits.{HasPixels};

@@ -50,8 +50,8 @@ zone-few c r b h =
     let k = bounded c b in
     let f = framed c r g in
     record {
-      w = omega (arith, g.left-few, f.w-few, k.border, k.extrusion);
-      h = omega (arith, g.top-few, f.h-few, k.border, k.extrusion);
+      w = omega (arith, g.left-few, f.w_few, k.border, k.extrusion);
+      h = omega (arith, g.top-few, f.h_few, k.border, k.extrusion);
     }
 
 -- ## the rows before row y are painted

@@ -6,14 +6,14 @@ ghost use Rattle.paint.specs.declared.background.Background.TheVariants.{Colour}
 
 use art::memory_rgba8_texture::Pixel;
 
-#[derive(Drop)]
+#[derive(Clone, Copy)]
 pub enum Threshold {
     Unset,
     AtMost(u8),
 }
 
 // None; or a colour, an optional threshold, and the discard switch.
-#[derive(Drop)]
+#[derive(Clone, Copy)]
 pub enum Background {
     Clear,
     Colour(Pixel, Threshold, bool),

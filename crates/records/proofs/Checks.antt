@@ -79,7 +79,7 @@ bounds_hold c b =
             le-leb _ _ b.border,
             (
               le-leb _ _ b.extrusion,
-              (in_within 1 8 c.pages b.pages b.pages-few, (in_within 1 256 c.images b.images b.images-few, tt)),
+              (in_within 1 8 c.pages b.pages b.pages_few, (in_within 1 256 c.images b.images b.images_few, tt)),
             ),
           ),
         ),
@@ -152,9 +152,9 @@ good-holds c r g =
     of_all _ (
       lt-ltb _ _ g.page,
       (
-        in_within 1 2048 r.source.w g.whole-w g.whole-w-few,
+        in_within 1 2048 r.source.w g.whole_w g.whole_w_few,
         (
-          in_within 1 2048 r.source.h g.whole-h g.whole-h-few,
+          in_within 1 2048 r.source.h g.whole_h g.whole_h_few,
           (
             in_within c.border (c.border + 4095) r.frame.x g.left g.left-few,
             (
@@ -162,8 +162,8 @@ good-holds c r g =
               (
                 flag_same r.trimmed c.trim g.trimmed,
                 (
-                  both (both (le-leb 1 (box_of r).w g.inside.some-w) (le-leb ((box_of r).x + (box_of r).w) r.source.w g.inside.in-w))
-                      (both (le-leb 1 (box_of r).h g.inside.some-h) (le-leb ((box_of r).y + (box_of r).h) r.source.h g.inside.in-h)),
+                  both (both (le-leb 1 (box_of r).w g.inside.some_w) (le-leb ((box_of r).x + (box_of r).w) r.source.w g.inside.in_w))
+                      (both (le-leb 1 (box_of r).h g.inside.some_h) (le-leb ((box_of r).y + (box_of r).h) r.source.h g.inside.in_h)),
                   tt,
                 ),
               ),
@@ -188,16 +188,16 @@ framed c r g = go r.turn g.inside
         → BoxIn (record { x = r.source.x; y = r.source.y; w = (lying t (size_of r.frame)).w; h = (lying t (size_of r.frame)).h }) r.source.w r.source.h
         → Framed r
     go Upright i = record {
-      some_w = i.some-w;
-      some_h = i.some-h;
-      w_few = omega (arith, i.in-w, g.whole-w-few);
-      h_few = omega (arith, i.in-h, g.whole-h-few);
+      some_w = i.some_w;
+      some_h = i.some_h;
+      w_few = omega (arith, i.in_w, g.whole_w_few);
+      h_few = omega (arith, i.in_h, g.whole_h_few);
     }
     go Turned i = record {
-      some_w = i.some-h;
-      some_h = i.some-w;
-      w_few = omega (arith, i.in-h, g.whole-h-few);
-      h_few = omega (arith, i.in-w, g.whole-w-few);
+      some_w = i.some_h;
+      some_h = i.some_w;
+      w_few = omega (arith, i.in_h, g.whole_h_few);
+      h_few = omega (arith, i.in_w, g.whole_w_few);
     }
 
 -- ## the blank record
@@ -249,7 +249,7 @@ is_blank_lem = refl
 -- ## a layout
 
 pub record Formed (l : Layout) : Type 0 where
-  pub in_bounds_lem : in_bounds l.config ≡ true
+  pub in_bounds : in_bounds l.config ≡ true
   pub config : Bounded l.config
   pub count : l.count ≤ l.config.images
   pub few : l.count ≤ 256
@@ -267,10 +267,10 @@ formed l e =
     let n : l.count ≤ l.config.images = leb-true _ _ h.1.0 in
     let each : (r : Record) → Memᴰ r (standing l) → Good l.config r = λ r m. good l.config r (all_in (record_well_formed l.config) (standing l) h.1.1.1.0 m) in
     record {
-      in_bounds_lem = h.0;
+      in_bounds = h.0;
       config = b;
       count = n;
-      few = omega (arith, b.images-few);
+      few = omega (arith, b.images_few);
       unused-so = h.1.1.0;
       blank = λ r m. blank_is r (all_in is_blank (unused l) h.1.1.0 m);
       standing-so = h.1.1.1.0;
@@ -278,7 +278,7 @@ formed l e =
       at = λ i g. each (get_or (standing l) i blank_record) (at_in (standing l) blank_record i g);
     }
 
--- the four parts make it well_formed_lem
+-- the four parts make it well_formed
 pub forms : (l : Layout) → in_bounds l.config ≡ true → l.count ≤ l.config.images → all is_blank (unused l) ≡ true
     → all (record_well_formed l.config) (standing l) ≡ true → well_formed l ≡ true
 unfolding well_formed

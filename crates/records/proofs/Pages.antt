@@ -41,7 +41,7 @@ count_least rs n h = greatest_least (λ (s : Record). s.page.0 + 1) rs n (λ r m
 pub count-few : (l : Layout) → well_formed l ≡ true → page_count (standing l) ≤ 8
 count-few l e =
     let f = formed l e in
-    omega (arith, f.config.pages-few, count_least (standing l) l.config.pages (λ r m. (f.each r m).page))
+    omega (arith, f.config.pages_few, count_least (standing l) l.config.pages (λ r m. (f.each r m).page))
 
 -- ## where frames end
 
@@ -123,8 +123,8 @@ pub ends-few : (l : Layout) → Formed l → {r : Record} → Good l.config r �
 ends-few l f {r} g =
     let s = framed l.config r g in
     record {
-      w = omega (arith, g.left-few, s.w-few, f.config.border);
-      h = omega (arith, g.top-few, s.h-few, f.config.border);
+      w = omega (arith, g.left-few, s.w_few, f.config.border);
+      h = omega (arith, g.top-few, s.h_few, f.config.border);
     }
 
 module _ (l : Layout) (e : well_formed l ≡ true) (p : Page) where
@@ -143,7 +143,7 @@ module _ (l : Layout) (e : well_formed l ≡ true) (p : Page) where
       go true = omega (arith, f.config.wide-few)
       go false =
           greatest_least (λ (s : Record). right_of s.frame + 1 + l.config.border) (on_page p.0 (standing l)) 6271
-          (λ r m. omega (arith, (ends-few l f (on_page-good m)).w, (framed l.config r (on_page-good m)).some-w))
+          (λ r m. omega (arith, (ends-few l f (on_page-good m)).w, (framed l.config r (on_page-good m)).some_w))
 
   pub side_h : (size_of_page l p).h ≤ 6271
   unfolding size_of_page ends_of
@@ -156,4 +156,4 @@ module _ (l : Layout) (e : well_formed l ≡ true) (p : Page) where
       go true = omega (arith, f.config.tall-few)
       go false =
           greatest_least (λ (s : Record). bottom_of s.frame + 1 + l.config.border) (on_page p.0 (standing l)) 6271
-          (λ r m. omega (arith, (ends-few l f (on_page-good m)).h, (framed l.config r (on_page-good m)).some-h))
+          (λ r m. omega (arith, (ends-few l f (on_page-good m)).h, (framed l.config r (on_page-good m)).some_h))

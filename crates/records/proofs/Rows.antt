@@ -153,6 +153,7 @@ exactly before b r after p q =
 module _ {A : Type 0} (t : A → Bool) where
   pub all_in : (l : List A) → all t l ≡ true → {x : A} → Memᴰ x l → t x ≡ true
   unfolding all
+  all_in [] e x4 = elim x4 [ ]
   all_in (y ∷ ys) e (Memᴰ.head q) = ap t q ∙ and_left (t y) (all t ys) e
   all_in (y ∷ ys) e (Memᴰ.tail m) = all_in ys (and_right (t y) (all t ys) e) m
 

@@ -11,14 +11,14 @@ use geometry::rect::{Rect, Size};
 use geometry::spot;
 use geometry::spot::Turn;
 
-#[derive(Drop)]
+#[derive(Clone, Copy)]
 pub struct Key(pub u32);
 
-#[derive(Drop)]
+#[derive(Clone, Copy)]
 pub struct Page(pub u32);
 
 // The trim box's corner in the whole image, and the whole image's size.
-#[derive(Drop)]
+#[derive(Clone, Copy)]
 pub struct Source {
     pub x: u32,
     pub y: u32,
@@ -26,7 +26,7 @@ pub struct Source {
     pub h: u32,
 }
 
-#[derive(Drop)]
+#[derive(Clone, Copy)]
 pub struct Record {
     pub key: Key,
     pub page: Page,

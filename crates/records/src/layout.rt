@@ -13,26 +13,26 @@ use crate::texture_packer_config::Config;
 use crate::{frame, texture_packer_config};
 use geometry::rect::Size;
 
-#[derive(Drop)]
+#[derive(Clone, Copy)]
 pub struct Layout {
     pub config: Config,
     pub count: usize,
     pub records: [Record; 256],
 }
 
-#[derive(Drop)]
+#[derive(Clone, Copy)]
 pub enum Opened {
     Done,
     Refused(Refusal),
 }
 
-#[derive(Drop)]
+#[derive(Clone, Copy)]
 pub struct Opening {
     pub answer: Opened,
     pub layout: Layout,
 }
 
-#[derive(Drop)]
+#[derive(Clone, Copy)]
 pub enum Sized {
     Is(Size),
     Refused(Refusal),

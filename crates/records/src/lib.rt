@@ -1,4 +1,6 @@
 // What a layout holds: a configuration, and a record for each standing image.
+#![tactic(auto)]
+
 pub mod frame;
 pub mod layout;
 pub mod refusal;

@@ -1,5 +1,7 @@
 // Replays a fixed list of cases: each is a script, the two stores and the answers that the crate gave, or that document 01 gives. It prints how many
 // there are, how many agree, and which differ; what it must print is in the gate.
+#![tactic(auto)]
+
 ghost use Rattle.std.specs.Prelude.{◌≤◌};
 
 use libc::STDOUT_FILENO;

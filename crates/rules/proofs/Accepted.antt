@@ -166,7 +166,7 @@ size_in w h e =
 
 -- no check of an offer holds
 pub record Accepted (l : Layout) (s : Stores) (k : Key) (i : Image) : Type 0 where
-  pub well_formed_lem : well_formed l ≡ true
+  pub well_formed : well_formed l ≡ true
   pub is-faithful : faithful l ≡ true
   pub size : bad_size i.w i.h ≡ false
   pub in_store : runs_past s i ≡ false
@@ -181,7 +181,7 @@ module _ (l : Layout) (s : Stores) (k : Key) (i : Image) where
   accepted e =
       let p : Nones (offer_row l s k i) = none-holds (offer_row l s k i) (sym (offer-row l s k i) ∙ e) in
       record {
-        well_formed_lem = not-false _ p.0;
+        well_formed = not-false _ p.0;
         is-faithful = not-false _ p.1.0;
         size = p.1.1.0;
         in_store = p.1.1.1.0;
@@ -199,7 +199,7 @@ module _ (l : Layout) (s : Stores) (k : Key) (i : Image) where
 
   pub art_pixels : bad_size i.w i.h ≡ false → (l.config.trim && all_clear s i) ≡ false → HasPixels (size_of (art_for l.config s k i).kept)
   unfolding size_of
-  art_pixels e f = let b = art_box e f in record { wide = b.some-w; tall = b.some-h }
+  art_pixels e f = let b = art_box e f in record { wide = b.some_w; tall = b.some_h }
 
   pub art_smaller : NoLarger (size_of (art_for l.config s k i).kept) (art_for l.config s k i).whole
   unfolding art_for size_of
@@ -208,12 +208,13 @@ module _ (l : Layout) (s : Stores) (k : Key) (i : Image) where
   pub accepted_placed : offer_refusal l s k i ≡ none → (r : Record) × (placed l.config (standing l) (art_for l.config s k i) ≡ some r)
   accepted_placed e =
       let a = accepted e in
-      rule_places l.config (standing l) (art_for l.config s k i) art_smaller (art_pixels a.size a.not-clear) a.not-large
+      rule_places l.config (standing l) (art_for l.config s k i) art_smaller (art_pixels a.size a.not-clear) a.not_large
 
 -- ## 10
 
 earliest-all : {A : Type 0} (t : A → Bool) (l : List A) → earliest t l ≡ none → (x : A) → Memᴰ x l → t x ≡ false
 unfolding earliest
+earliest-all {A = A} t [] e x m = elim m [ ]
 earliest-all {A} t (y ∷ ys) e x m = go (t y) refl e m (λ h n. earliest-all t ys h x n)
   where
     go : (b : Bool) → t y ≡ b → cond b (some y) (earliest t ys) ≡ none → Memᴰ x (y ∷ ys)

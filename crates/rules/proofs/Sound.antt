@@ -1,4 +1,4 @@
--- The records of a well_formed_lem and faithful layout: one more that the rule gives, one less, and the pages that they fill.
+-- The records of a well_formed and faithful layout: one more that the rule gives, one less, and the pages that they fill.
 -- Assumes nothing.
 use Prim.Native.Nat.{ℕ, ◌+◌, ◌-◌, ◌≤◌, ◌<◌}
 use native.Mathlib.Omega.{arith}
@@ -48,7 +48,7 @@ pub record Sound (c : Config) (rs : List Record) : Type 0 where
   pub so : placed_so c [] rs ≡ true
   pub whole : all (whole_if_untrimmed c) rs ≡ true
 
--- ## a layout of sound records is well_formed_lem and faithful, and the other way round
+-- ## a layout of sound records is well_formed and faithful, and the other way round
 
 module _ (c : Config) (rs : List Record) (h : Sound c rs) where
   pub sound_formed : well_formed (filled c rs) ≡ true
@@ -114,7 +114,7 @@ filled_on c earlier (r ∷ rs) w e h =
     (filled_more c earlier (art_of r) r s (pixels ok) h))
   where
     pixels : record_well_formed c r ≡ true → HasPixels (cell_size c (size_of (art_of r).kept))
-    pixels ok = let g = good c r ok in cell_pixels c (size_of (art_of r).kept) (unfold art_of size_of in record { wide = g.inside.some-w; tall = g.inside.some-h })
+    pixels ok = let g = good c r ok in cell_pixels c (size_of (art_of r).kept) (unfold art_of size_of in record { wide = g.inside.some_w; tall = g.inside.some_h })
 
 pub sound_pages : (c : Config) (rs : List Record) → Sound c rs → PagesFilled c rs
 sound_pages c rs h = filled_on c [] rs h.each h.so (none_filled c)
@@ -145,9 +145,9 @@ lies_in_lem a n whole p q = both (le-leb _ _ p) (le-leb _ _ q)
 box_inside_lem : (k : Rect) (whole : Size) → BoxIn k whole.w whole.h → box_inside k whole ≡ true
 unfolding box_inside
 box_inside_lem k whole g =
-    both (lies_in_lem k.x k.w whole.w g.some-w g.in-w) (lies_in_lem k.y k.h whole.h g.some-h g.in-h)
+    both (lies_in_lem k.x k.w whole.w g.some_w g.in_w) (lies_in_lem k.y k.h whole.h g.some_h g.in_h)
 
--- what the rule makes of a good image is well_formed_lem
+-- what the rule makes of a good image is well_formed
 made_formed : (c : Config) (a : Art) (p : ℕ) (k : Spot) → p < c.pages → SizeIn a.whole.w a.whole.h → k.at.x ≤ 4095 → k.at.y ≤ 4095
     → BoxIn a.kept a.whole.w a.whole.h → record_well_formed c (record_at c a p k) ≡ true
 unfolding record_well_formed record_at art_of
@@ -200,7 +200,7 @@ more_sound c rs s k i r h g e =
       bounds = h.bounds;
       few = omega arith;
       each = all_snoc (record_well_formed c) rs r h.each (ap (record_well_formed c) u.is ∙ ok);
-      keys = keys_more rs r h.keys (ap (λ (q : Key). any (has_key q) rs) key ∙ g.key-new);
+      keys = keys_more rs r h.keys (ap (λ (q : Key). any (has_key q) rs) key ∙ g.key_new);
       so = so_more c [] rs r h.so (placed_same c rs a r e);
       whole = all_snoc (whole_if_untrimmed c) rs r h.whole (whole-placed c rs s k i r e);
     }

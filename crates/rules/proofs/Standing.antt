@@ -36,7 +36,7 @@ pub empty-filled : (c : Config) → empty_layout c ≡ filled c []
 unfolding empty_layout filled
 empty-filled c = refl
 
--- a well_formed_lem layout of 256 places is its configuration and its standing records
+-- a well_formed layout of 256 places is its configuration and its standing records
 pub is-filled : (l : Layout) → well_formed l ≡ true → length l.records ≡ 256 → l ≡ filled l.config (standing l)
 unfolding filled standing unused
 is-filled l ok long =

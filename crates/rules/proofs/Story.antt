@@ -71,7 +71,7 @@ layout-stands l w f n = record { records = standing l; layout = is-filled l w n;
 -- ## one call keeps it
 
 pub few_records : (c : Config) (rs : List Record) → Sound c rs → length rs ≤ 256
-few_records c rs h = omega (arith, h.few, (bounded c h.bounds).images-few)
+few_records c rs h = omega (arith, h.few, (bounded c h.bounds).images_few)
 
 pub taken : (c : Config) (rs : List Record) (s : Stores) (k : Key) (i : Image) → offer_refusal (filled c rs) s k i ≡ none → Taken c rs s k i
 unfolding filled
@@ -80,7 +80,7 @@ taken c rs s k i e =
     let st = standing-filled c rs in
     record {
       size = size_in i.w i.h a.size;
-      key_new = ap (any (has_key k)) (sym st) ∙ a.key-new;
+      key_new = ap (any (has_key k)) (sym st) ∙ a.key_new;
       box = art_box (filled c rs) s k i a.size a.not-clear;
       pixels = art_pixels (filled c rs) s k i a.size a.not-clear;
       room = leb-false _ _ a.image-room;
@@ -93,7 +93,7 @@ module _ (c : Config) (rs : List Record) (h : Sound c rs) where
   offer_sound s k i r e p = more_sound c rs s k i r h (taken c rs s k i e) p
 
   pub offer-room : (s : Stores) (k : Key) (i : Image) → offer_refusal (filled c rs) s k i ≡ none → length rs < 256
-  offer-room s k i e = let t = (taken c rs s k i e).room in omega (arith, (bounded c h.bounds).images-few)
+  offer-room s k i e = let t = (taken c rs s k i e).room in omega (arith, (bounded c h.bounds).images_few)
 
   pub offer-places : (s : Stores) (k : Key) (i : Image) {o : Option Record}
       → placed (filled c rs).config (standing (filled c rs)) (art_for (filled c rs).config s k i) ≡ o → placed c rs (art_for c s k i) ≡ o
@@ -166,7 +166,7 @@ filled-stands c rs (Ask p z) h = unfold step stand in record { records = rs; lay
 pub step-stands : (c : Config) (l : Layout) (images : List Art) (k : Call) → Stands c l images → Stands c (step k l) (stand k l images)
 step-stands c l images k h =
     subst (λ (m : Layout). Stands c (step k m) (stand k m images)) (sym h.layout)
-    (subst (λ (a : List Art). Stands c (step k (filled c h.records)) (stand k (filled c h.records) a)) h.images-are
+    (subst (λ (a : List Art). Stands c (step k (filled c h.records)) (stand k (filled c h.records) a)) h.images_are
     (filled-stands c h.records k h.sound))
 
 pub calls_stand : (c : Config) (l : Layout) (images : List Art) (calls : List Call) → Stands c l images
@@ -177,11 +177,11 @@ calls_stand c l images (k ∷ ks) h = calls_stand c (step k l) (stand k l images
 
 -- ## what it says
 
--- the layout is what the placing rule gives for the images alone; well_formed_lem and faithful; its records' images are these; every page's
+-- the layout is what the placing rule gives for the images alone; well_formed and faithful; its records' images are these; every page's
 -- cells lie in the canvas and share no pixel
 pub record Demand3 (c : Config) (l : Layout) (images : List Art) : Type 0 where
   pub state : layout_for c images ≡ some l
-  pub well_formed_lem : well_formed l ≡ true
+  pub well_formed : well_formed l ≡ true
   pub is-faithful : faithful l ≡ true
   pub images_are : map art_of (standing l) ≡ images
   pub places : length l.records ≡ 256
@@ -195,10 +195,10 @@ stands_demand c l images h =
     let st : standing l ≡ rs = ap standing h.layout ∙ standing-filled c rs in
     let f = sound_pages c rs h.sound in
     record {
-      state = ap (layout_for c) (sym h.images-are) ∙ ap (filled_with c) (sound_laid c rs h.sound) ∙ ap some (sym h.layout);
-      well_formed_lem = ap well_formed h.layout ∙ sound_formed c rs h.sound;
+      state = ap (layout_for c) (sym h.images_are) ∙ ap (filled_with c) (sound_laid c rs h.sound) ∙ ap some (sym h.layout);
+      well_formed = ap well_formed h.layout ∙ sound_formed c rs h.sound;
       is-faithful = ap faithful h.layout ∙ sound_faithful c rs h.sound;
-      images_are = ap (map art_of) st ∙ h.images-are;
+      images_are = ap (map art_of) st ∙ h.images_are;
       places = ap (λ (m : Layout). length m.records) h.layout ∙ places-filled c rs (few_records c rs h.sound);
       inside = λ p k m.
           page-inside (canvas c) c.rotation (f p) k

@@ -5,32 +5,32 @@ use records::frame::{Key, Page};
 use records::layout::Layout;
 use records::refusal::Refusal;
 
-#[derive(Drop)]
+#[derive(Clone, Copy)]
 pub enum Asked {
     Yes,
     No,
     Refused(Refusal),
 }
 
-#[derive(Drop)]
+#[derive(Clone, Copy)]
 pub enum Offered {
     Placed(Page, Rect, Turn),
     Refused(Refusal),
 }
 
-#[derive(Drop)]
+#[derive(Clone, Copy)]
 pub struct Offering {
     pub answer: Offered,
     pub layout: Layout,
 }
 
-#[derive(Drop)]
+#[derive(Clone, Copy)]
 pub enum Withdrawn {
     Gone(Key),
     Refused(Refusal),
 }
 
-#[derive(Drop)]
+#[derive(Clone, Copy)]
 pub struct Withdrawing {
     pub answer: Withdrawn,
     pub layout: Layout,

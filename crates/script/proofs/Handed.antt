@@ -26,7 +26,7 @@ module _ (l : Layout) (s : Stores) (k : Key) (y : ℕ) where
   short_by none e =
       let p = passed (not (well_formed l)) NotWellFormed _ e in
       let q = passed (not (any (has_key k) (standing l))) NoSuchKey _ p.1 in
-      let w = (named-good l k (not-false _ p.0) (not-false _ q.0)).whole-w-few in
+      let w = (named-good l k (not-false _ p.0) (not-false _ q.0)).whole_w_few in
       omega arith
 
   pub part-short : (part_read l s k y).size ≤ 8192

@@ -88,12 +88,12 @@ module _ (script : List ℕ) (s : Stores) (room : ℕ) where
     pub enough : length script ≤ at + turns
     pub all : ran_from turns script s room said at l ≡ ran script s room
 
-  goes_on_lem : (turns : ℕ) (said : List ℕ) (at : ℕ) (l m : Layout) (next : ℕ) (bytes : List ℕ) → length said + 12 ≤ room → length script ≤ at + turns
+  goes_on : (turns : ℕ) (said : List ℕ) (at : ℕ) (l m : Layout) (next : ℕ) (bytes : List ℕ) → length said + 12 ≤ room → length script ≤ at + turns
       → ran_from turns script s room said at l ≡ ran script s room → at < length script → stepped script s room said at l ≡ GoesOn m next bytes
       → Left (said ++ bytes) next m
   unfolding ran_from
-  goes_on_lem zero said at l m next bytes f n a h e = absurd (omega arith)
-  goes_on_lem (suc turns) said at l m next bytes f n a h e =
+  goes_on zero said at l m next bytes f n a h e = absurd (omega arith)
+  goes_on (suc turns) said at l m next bytes f n a h e =
       let sound : Sound (length script) room (length said) at (GoesOn m next bytes) =
       subst (Sound (length script) room (length said) at) e (stepped_sound script s room said at l f)
       in
@@ -108,7 +108,7 @@ module _ (script : List ℕ) (s : Stores) (room : ℕ) where
       record { turns = length script; fits = omega arith; enough = omega arith; all = rw (le-ltb room 12 r) }
   passed r (Next {said} {at} {l} {m} {next} {bytes} p h e) =
       let k = passed r p in
-      goes_on_lem k.turns said at l m next bytes k.fits k.enough k.all h e
+      goes_on k.turns said at l m next bytes k.fits k.enough k.all h e
 
   -- ## demand 3 of every layout that a run passes since an open in bounds, with no `set` after it: calls, each on the layout that the last one returned
 

@@ -14,7 +14,7 @@ use wire::answers::Answer;
 use wire::{answers, words};
 
 // Check rows' answer, or that the part runs past its source.
-#[derive(Drop)]
+#[derive(Clone, Copy)]
 struct Checking {
     answer: Answer,
     past: bool,

@@ -1,4 +1,6 @@
 // Any sequence of operations as bytes in, answers as bytes out: docs/SCRIPT.md.
+#![tactic(auto)]
+
 ghost use Rattle.std.specs.Prelude.{◌≡◌, length};
 ghost use Rattle.art.specs.Stores.{lent};
 ghost use Rattle.wire.specs.Bytes.{put};

@@ -10,7 +10,7 @@ use wire::answers::Answer;
 use wire::{fields, words};
 
 // Where a command leaves off: the layout, the next command's place in the script, the bytes of answers written, and why the run ends, 0 where it goes on.
-#[derive(Drop)]
+#[derive(Clone, Copy)]
 pub struct Step {
     pub layout: Layout,
     pub next: usize,

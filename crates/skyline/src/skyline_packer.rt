@@ -224,7 +224,7 @@ pub fn can_pack<'a>(
 }
 
 // What was found, and the number of segments that the skyline then has.
-#[derive(Drop)]
+#[derive(Clone, Copy)]
 pub struct Packed {
     pub found: Found,
     pub n: usize,

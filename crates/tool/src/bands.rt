@@ -12,7 +12,7 @@ use records::layout::Layout;
 use records::refusal::Refusal;
 
 // What became of a page's file.
-#[derive(Drop)]
+#[derive(Clone, Copy)]
 pub enum Filed {
     Same,
     Missing,
@@ -28,7 +28,7 @@ pub enum Filed {
 }
 
 // What is done with a band: composed in the buffer and written, or read into it and checked.
-#[derive(Drop)]
+#[derive(Clone, Copy)]
 enum Task {
     Write,
     Check,

@@ -8,7 +8,7 @@ use laying::Laid;
 use paint::background::Background;
 use records::layout::Layout;
 
-#[derive(Drop)]
+#[derive(Clone, Copy)]
 pub enum Program {
     Pack,
     Verify,

@@ -1,4 +1,6 @@
 // What the programs `pack` and `verify` do: a job laid out, and its pages written or checked.
+#![tactic(auto)]
+
 pub mod bands;
 pub mod driving;
 pub mod files;

@@ -8,7 +8,7 @@ use records::frame::Page;
 use records::layout as layouts;
 use records::layout::{Layout, Sized};
 
-#[derive(Drop)]
+#[derive(Clone, Copy)]
 pub enum Work {
     // Composed, written under the fresh name, and read back.
     Write,

@@ -8,7 +8,7 @@ use job::reading;
 use job::reading::{Job, Outcome};
 
 // Whether all is there, the job, and how long the two stores are.
-#[derive(Drop)]
+#[derive(Clone, Copy)]
 pub struct Ready {
     pub good: bool,
     pub job: Job,
@@ -17,7 +17,7 @@ pub struct Ready {
 }
 
 // Whether a file is there whole, and its length.
-#[derive(Drop)]
+#[derive(Clone, Copy)]
 struct Loaded {
     good: bool,
     length: usize,

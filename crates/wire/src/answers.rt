@@ -24,7 +24,7 @@ use records::refusal::Refusal;
 use rules::multi_texture_packer::{Asked, Offered, Withdrawn};
 
 // The first `count` of the words.
-#[derive(Drop)]
+#[derive(Clone, Copy)]
 pub struct Answer {
     pub count: usize,
     pub words: [u32; 8],

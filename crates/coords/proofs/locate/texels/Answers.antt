@@ -1,0 +1,11 @@
+use mathlib.Core.Path.{sym, ap, ◌∙◌}
+use borrow.Author.Rules.{rules}
+use Rattle.coords.specs.declared.locate.Located.TheVariants.{Texels}
+use Rattle.coords.proofs.Answers.{texels_past, texels_in}
+use Rattle.coords.proofs.locate.texels.Goals as goal
+
+pub returns-then-past_edge : goal.returns-then-past_edge
+returns-then-past_edge c = sym (texels_past _ _ _ (sym c.past_edge.ensures ∙ c.if-past_edge.true))
+
+pub returns : goal.returns
+returns c = ap Texels c.corners_of.ensures ∙ sym (texels_in _ _ _ (sym c.past_edge.ensures ∙ c.if-past_edge.false))

@@ -1,0 +1,7 @@
+use Rattle.geometry.specs.Rects.{at_end}
+use borrow.Author.Rules.{rules}
+use Rattle.geometry.proofs.rect.at_end.Goals as goal
+
+pub returns : goal.returns
+unfolding at_end
+returns c = cc

@@ -1,0 +1,19 @@
+use Prim.Native.Nat.{ℕ, ◌-◌, ◌≤◌, ◌<◌}
+use mathlib.Core.Path.{◌≡◌, sym, ◌∙◌}
+use mathlib.Core.Bool.{false}
+use mathlib.Core.List.{List}
+use native.Mathlib.Omega.{arith}
+use borrow.Author.Count.{below_more}
+use Rattle.geometry.specs.declared.rect.Rect.{Rect}
+use Rattle.geometry.specs.Placing.{height, spot_for, is_found}
+use Rattle.pages.specs.Pages.{Stands}
+use Rattle.pages.proofs.Pages.{page-found, page-none}
+use Rattle.pages.proofs.first_page.Given as goal
+
+abbrev pub invariant-loop-p : goal.invariant-loop-p
+invariant-loop-p l =
+    (l.p ≤ l.count)
+    × ((cells : ℕ → List Rect) (m : ℕ) → Stands l.area.w cells m l.xs l.ys l.ns → (k : ℕ) → k < l.p → is_found (spot_for (height (cells k)) l.area l.rotation l.cell) ≡ false)
+
+abbrev pub decreases-loop-p : goal.decreases-loop-p
+decreases-loop-p l = l.count - l.p

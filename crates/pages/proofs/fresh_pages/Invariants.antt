@@ -1,0 +1,12 @@
+use Prim.Native.Nat.{◌-◌, ◌≤◌}
+use mathlib.Core.Path.{◌≡◌, sym, ◌∙◌}
+use native.Mathlib.Omega.{arith}
+use Rattle.pages.specs.Pages.{Fresh}
+use Rattle.pages.proofs.Pages.{fresh_none, fresh_as}
+use Rattle.pages.proofs.fresh_pages.Given as goal
+
+abbrev pub invariant-loop-p : goal.invariant-loop-p
+invariant-loop-p l = (l.p ≤ 8) × Fresh l.w l.p l.xs l.ys l.ns
+
+abbrev pub decreases-loop-p : goal.decreases-loop-p
+decreases-loop-p l = 8 - l.p

@@ -1,0 +1,21 @@
+use Prim.Native.Nat.{ℕ, ◌≤◌, ◌<◌, ◌-◌}
+use mathlib.Core.Path.{◌≡◌, ap, ◌∙◌, sym, refl}
+use mathlib.Core.Logic.{⊎_elim}
+use lib.ListN.{get_or}
+use native.Mathlib.Omega.{arith}
+use borrow.Author.Rules.{rules}
+use Rattle.geometry.specs.Placing.{rank, best_of, candidates_from, spot_for}
+use Rattle.geometry.specs.Choice.{lowest}
+use Rattle.skyline.specs.Skyline.{Level}
+use Rattle.geometry.proofs.Choices.{lowest-none}
+use Rattle.skyline.proofs.Search.{search_start, search_end, try_none}
+use Rattle.skyline.proofs.Skylines.{search_next}
+use Rattle.skyline.proofs.skyline_packer.find_skyline.Given as goal
+
+abbrev pub invariant-loop-i : goal.invariant-loop-i
+invariant-loop-i l =
+    (l.i ≤ l.n) × (l.low ≡ lowest l.area.h l.found)
+    × ((f : ℕ → ℕ) → Level f l.xs l.ys l.n → best_of rank l.found (candidates_from f l.area l.rotation l.cell (get_or l.xs l.i 0)) ≡ spot_for f l.area l.rotation l.cell)
+
+abbrev pub decreases-loop-i : goal.decreases-loop-i
+decreases-loop-i l = l.n - l.i

@@ -1,0 +1,19 @@
+use Prim.Native.Nat.{ℕ, ◌≤◌, ◌<◌, ◌-◌, min}
+use mathlib.Core.Path.{sym, subst}
+use native.Mathlib.Nat.{lt_of_lt_of_le}
+use lib.ListN.{get_or}
+use native.Mathlib.Omega.{arith}
+use borrow.Author.Tests.{le-leb, lt-leb}
+use Rattle.geometry.specs.Placing.{top}
+use Rattle.skyline.specs.Skyline.{Level}
+use Rattle.geometry.proofs.Heights.{top-none}
+use Rattle.skyline.proofs.Skylines.{top-step, top_over, top_passed, before_edge}
+use Rattle.skyline.proofs.skyline_packer.stays_under.Given as goal
+
+abbrev pub invariant-loop-j : goal.invariant-loop-j
+invariant-loop-j l =
+    (l.j ≤ l.n) × (get_or l.xs l.i 0 ≤ get_or l.xs l.j 0)
+    × ((f : ℕ → ℕ) → Level f l.xs l.ys l.n → top f (get_or l.xs l.i 0) (min (get_or l.xs l.j 0) l.e - get_or l.xs l.i 0) ≤ l.most)
+
+abbrev pub decreases-loop-j : goal.decreases-loop-j
+decreases-loop-j l = l.n - l.j
