@@ -12,7 +12,6 @@ use Rattle.art.specs.Trimming.{first_seen}
 use Rattle.art.specs.declared.memory_rgba8_texture.Pixel.{Pixel}
 use Rattle.art.proofs.Seen.{first-is, first-none, first_below, first-le}
 use Rattle.records.proofs.Rows.{all_of_lem, of_all}
-use Rattle.paint.specs.Pictures.{picture}
 use Rattle.paint.specs.Painting.{pixel_no, Shows}
 use Rattle.compose.specs.Checking.{same_pixel, differs, column_off, row_off, compared}
 use Rattle.compose.specs.declared.checking.Checked.TheVariants.{Same, Differs}

@@ -20,7 +20,7 @@ use Rattle.records.specs.declared.refusal.Refusal.{Refusal}
 use Rattle.records.specs.declared.refusal.Refusal.TheVariants.{NotWellFormed, NoSuchKey, BadInset, PastPage}
 use Rattle.records.proofs.Rows.{hit, skipped, none_left, at_in}
 use Rattle.records.proofs.Checks.{Good, formed}
-use Rattle.records.proofs.Keys.{named as Named-by, stands-below}
+use Rattle.records.proofs.Keys.{named as named_by, stands-below}
 use Rattle.records.proofs.Pages.{ends-few, side_w, side_h}
 use Rattle.coords.specs.Coordinates.{nought, corners, named_page_size, between, past_edge, wanted, locate_row, locate_refusal, locate_answer, located}
 use Rattle.coords.specs.Parts.{Countable, texel_answer, requested}
@@ -64,7 +64,7 @@ module _ (l : Layout) (k : Key) where
 
   names : key_place k (standing l) < length (standing l) → record_named l k ≡ placed
   unfolding record_named record_of
-  names h = ap (λ (o : Option Record). or_else o blank_record) (Named-by k (standing l) h).is
+  names h = ap (λ (o : Option Record). or_else o blank_record) (named_by k (standing l) h).is
 
   -- a key that stands names a standing record
   pub named_in : any (has_key k) (standing l) ≡ true → Memᴰ (record_named l k) (standing l)
@@ -122,7 +122,7 @@ module _ (l : Layout) (k : Key) (e : well_formed l ≡ true) (h : key_place k (s
     page-is = ap (λ (n : Record). size_of_page l n.page) (names l k h ∙ sym p) ∙ sym z
 
     stands : any (has_key k) (standing l) ≡ true
-    stands = (Named-by k (standing l) h).stands
+    stands = (named_by k (standing l) h).stands
 
     pub read_countable : Countable r.frame s
     read_countable = subst (λ (t : Size). Countable r.frame t) page-is (subst (λ (f : Rect). Countable f (named_page_size l k)) frame_is_lem (countable l k e stands))

@@ -56,7 +56,7 @@ module _ (l : Layout) (k : Key) (q : Request) where
   abbrev sixteen : Check
   sixteen = (out_of_page q (record_named l k).frame (named_page_size l k), PastPage)
 
-  -- not well_formed
+  -- not well-formed
   pub locate_2 : located l k q ≡ Refused NotWellFormed ↔ well_formed l ≡ false
   unfolding locate_refusal locate_row
   locate_2 =

@@ -133,7 +133,7 @@ unformed = alone 0 true (rect 1 5000 8 9)
 
 unfoldable pub order_lines : List Line
 order_lines =
-    -- a layout that is not well_formed, whatever is asked
+    -- a layout that is not well-formed, whatever is asked
     (answer unformed 7 Pixels, 2 ∷ [])
     ∷ (answer unformed 7 Edges, 2 ∷ [])
     ∷ (answer unformed 9 (inset 2143289344), 2 ∷ [])

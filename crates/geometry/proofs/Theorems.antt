@@ -1,6 +1,6 @@
 -- What holds of placing on one page, each under the sentence of document 01 that it carries. The crates above cite these.
 -- Assumes nothing.
-use Prim.Native.Nat.{ℕ, ◌+◌, ◌-◌, ◌≤◌}
+use Prim.Native.Nat.{ℕ, ◌+◌, ◌≤◌}
 use native.Mathlib.Omega.{arith}
 use mathlib.Core.Path.{◌≡◌, refl, sym, ◌∙◌, ap, subst}
 use mathlib.Core.Bool.{Bool, true}
@@ -8,7 +8,7 @@ use mathlib.Core.List.Memᴰ
 use mathlib.Core.List.{List, [], ◌∷◌, ◌++◌, Memᴰ}
 use mathlib.Core.Logic.{◌⊎◌, inl, inr}
 use Rattle.geometry.specs.Words.{before}
-use Rattle.geometry.specs.Placing.{height, top, lying, cell_at, spot_at, orientations, candidates, rank, best_of, spot_for, grown}
+use Rattle.geometry.specs.Placing.{height, top, lying, cell_at, spot_at, candidates, rank, best_of, spot_for, grown}
 use Rattle.geometry.specs.Fits.{HasPixels, Fits, Picks, Apart, Within, Filled, empty, put, AllApart, SidesFit}
 use Rattle.geometry.specs.declared.rect.Rect.{Rect}
 use Rattle.geometry.specs.declared.rect.Size.{Size}

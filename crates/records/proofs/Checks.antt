@@ -278,7 +278,7 @@ formed l e =
       at = λ i g. each (get_or (standing l) i blank_record) (at_in (standing l) blank_record i g);
     }
 
--- the four parts make it well_formed
+-- the four parts make it well-formed
 pub forms : (l : Layout) → in_bounds l.config ≡ true → l.count ≤ l.config.images → all is_blank (unused l) ≡ true
     → all (record_well_formed l.config) (standing l) ≡ true → well_formed l ≡ true
 unfolding well_formed

@@ -26,7 +26,7 @@ use Rattle.records.proofs.Pages.{side_ends}
 
 -- ## "Well-formed: configuration in bounds; image count within its limit; unused places blank; in each record .."
 
--- these make a layout well_formed; `formed` of Checks gives them back
+-- these make a layout well-formed; `formed` of Checks gives them back
 pub formed_when : (l : Layout) → Bounded l.config → l.count ≤ l.config.images → ((r : Record) → Memᴰ r (unused l) → r ≡ blank_record)
     → ((r : Record) → Memᴰ r (standing l) → Good l.config r) → well_formed l ≡ true
 formed_when l b n u s =

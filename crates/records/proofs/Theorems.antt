@@ -78,7 +78,7 @@ module _ (l : Layout) (p : Page) where
   unfolding page_sized
   refusal_of e = answered (size_refusal l p) e
 
-  -- 2: not well_formed
+  -- 2: not well-formed
   pub size_2 : page_sized l p ≡ SizeRefused NotWellFormed ↔ well_formed l ≡ false
   unfolding size_refusal size_row
   size_2 = (
@@ -86,7 +86,7 @@ module _ (l : Layout) (p : Page) where
     λ f. sized_refused l p (size-unformed l p f),
   )
 
-  -- 11: page not below the page count, of a layout that is well_formed
+  -- 11: page not below the page count, of a layout that is well-formed
   pub size_11 : page_sized l p ≡ SizeRefused NoSuchPage ↔ (well_formed l ≡ true) × (page_count (standing l) ≤ p.0)
   unfolding size_refusal size_row no_such_page
   size_11 = (to, λ h. sized_refused l p (size_no_page l p h.0 h.1))
@@ -135,7 +135,7 @@ pub empty-unused : (c : Config) → unused (empty_layout c) ≡ replicate 256 bl
 unfolding unused empty_layout
 empty-unused c = refl
 
--- ## an opened layout is well_formed, has the configuration asked for, and no image
+-- ## an opened layout is well-formed, has the configuration asked for, and no image
 
 pub opened-empty : (c : Config) → in_bounds c ≡ true → (opened c).layout ≡ empty_layout c
 opened-empty c e = ap (λ (o : Opening). o.layout) (opened-done c e)

@@ -1,4 +1,4 @@
--- A layout's records: which stand, well_formed, pages, keys.
+-- A layout's records: which stand, well-formed, pages, keys.
 -- Assumes nothing.
 use Rattle.std.specs.Prelude.{ℕ, ◌+◌, Bool, cond, List, [], ◌∷◌, length, take, drop, get_or, leb, eqb}
 use Rattle.std.proofs.Math.Option.{Option}

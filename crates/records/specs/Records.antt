@@ -1,4 +1,4 @@
--- One record: blank, its trim box and image, well_formed.
+-- One record: blank, its trim box and image, well-formed.
 -- Assumes nothing.
 use Rattle.std.specs.Prelude.{ℕ, ◌+◌, Bool, not, ◌&&◌, [], ◌∷◌, leb, ltb, eqb}
 use Rattle.std.specs.Bool.{beq}

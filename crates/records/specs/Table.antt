@@ -264,7 +264,7 @@ page_lines =
     ∷ (size_on (paged true) 1, 0 ∷ 32 ∷ 30 ∷ [])
     ∷ (size_on (paged true) 3, 11 ∷ [])
     ∷ (size_on overrun 0, 0 ∷ 4 ∷ 5 ∷ [])
-    -- not well_formed, asked before the page
+    -- not well-formed, asked before the page
     ∷ (size_on (laid (strict false) 1 (bad ∷ [])) 0, 2 ∷ [])
     ∷ (size_on (laid (strict false) 1 (bad ∷ [])) 9, 2 ∷ [])
     ∷ (size_on (laid (limits 0 9 0 0 0 1 1) 0 []) 0, 2 ∷ [])

@@ -1,4 +1,4 @@
--- The records of a well_formed and faithful layout: one more that the rule gives, one less, and the pages that they fill.
+-- The records of a well-formed and faithful layout: one more that the rule gives, one less, and the pages that they fill.
 -- Assumes nothing.
 use Prim.Native.Nat.{ℕ, ◌+◌, ◌-◌, ◌≤◌, ◌<◌}
 use native.Mathlib.Omega.{arith}
@@ -48,7 +48,7 @@ pub record Sound (c : Config) (rs : List Record) : Type 0 where
   pub so : placed_so c [] rs ≡ true
   pub whole : all (whole_if_untrimmed c) rs ≡ true
 
--- ## a layout of sound records is well_formed and faithful, and the other way round
+-- ## a layout of sound records is well-formed and faithful, and the other way round
 
 module _ (c : Config) (rs : List Record) (h : Sound c rs) where
   pub sound_formed : well_formed (filled c rs) ≡ true
@@ -147,7 +147,7 @@ unfolding box_inside
 box_inside_lem k whole g =
     both (lies_in_lem k.x k.w whole.w g.some_w g.in_w) (lies_in_lem k.y k.h whole.h g.some_h g.in_h)
 
--- what the rule makes of a good image is well_formed
+-- what the rule makes of a good image is well-formed
 made_formed : (c : Config) (a : Art) (p : ℕ) (k : Spot) → p < c.pages → SizeIn a.whole.w a.whole.h → k.at.x ≤ 4095 → k.at.y ≤ 4095
     → BoxIn a.kept a.whole.w a.whole.h → record_well_formed c (record_at c a p k) ≡ true
 unfolding record_well_formed record_at art_of

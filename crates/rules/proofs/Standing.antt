@@ -6,7 +6,6 @@ use mathlib.Core.Bool.{true}
 use mathlib.Core.List.{List, [], ◌∷◌, ◌++◌}
 use lib.ListN.{length, take, drop, get_or, set, replicate, length-append, length-replicate, length-drop, take-append-drop}
 use lib.Seq.{length-take-le, take-append_seam, drop-append_seam, set-append_seam, get_or_at, append_snoc}
-use Rattle.geometry.specs.Words.{all}
 use Rattle.records.specs.Settings.{blank_record, empty_layout}
 use Rattle.records.specs.Layouts.{standing, unused, well_formed}
 use Rattle.records.specs.declared.texture_packer_config.Config.{Config}
@@ -36,7 +35,7 @@ pub empty-filled : (c : Config) → empty_layout c ≡ filled c []
 unfolding empty_layout filled
 empty-filled c = refl
 
--- a well_formed layout of 256 places is its configuration and its standing records
+-- a well-formed layout of 256 places is its configuration and its standing records
 pub is-filled : (l : Layout) → well_formed l ≡ true → length l.records ≡ 256 → l ≡ filled l.config (standing l)
 unfolding filled standing unused
 is-filled l ok long =

@@ -177,7 +177,7 @@ calls_stand c l images (k ∷ ks) h = calls_stand c (step k l) (stand k l images
 
 -- ## what it says
 
--- the layout is what the placing rule gives for the images alone; well_formed and faithful; its records' images are these; every page's
+-- the layout is what the placing rule gives for the images alone; well-formed and faithful; its records' images are these; every page's
 -- cells lie in the canvas and share no pixel
 pub record Demand3 (c : Config) (l : Layout) (images : List Art) : Type 0 where
   pub state : layout_for c images ≡ some l

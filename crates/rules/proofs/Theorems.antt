@@ -188,7 +188,7 @@ offer-placed l s k i e =
 
 -- ## demand 3: "all cells in the canvas, no two on one page sharing a pixel", over the placing rule
 
--- in every well_formed and faithful layout
+-- in every well-formed and faithful layout
 module _ (l : Layout) (formed : well_formed l ≡ true) (true-to : faithful l ≡ true) where
   pub pages_filled : PagesFilled l.config (standing l)
   pages_filled = sound_pages l.config (standing l) (standing_sound l formed true-to)
@@ -199,7 +199,7 @@ module _ (l : Layout) (formed : well_formed l ≡ true) (true-to : faithful l �
   pub cells_apart : (p : ℕ) → AllApart (cells_on l.config (standing l) p)
   cells_apart p = page_apart (canvas l.config) l.config.rotation (pages_filled p)
 
--- after any calls from a well_formed and faithful layout, whose own records' images stand first
+-- after any calls from a well-formed and faithful layout, whose own records' images stand first
 pub demand_3 : (l : Layout) → well_formed l ≡ true → faithful l ≡ true → length l.records ≡ 256 → (calls : List Call)
     → Demand3 l.config (layout_after l calls) (images_after l (map art_of (standing l)) calls)
 demand_3 l w f n calls =

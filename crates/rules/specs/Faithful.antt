@@ -1,7 +1,7 @@
 -- Faithful: keys differ, and running the placing rule over the records in order gives each its page, place and turn; with trim off each
 -- box is the whole image.
 -- Assumes nothing.
-use Rattle.std.specs.Prelude.{ℕ, Bool, true, false, not, ◌&&◌, ◌||◌, List, [], ◌∷◌, ◌++◌, eqb}
+use Rattle.std.specs.Prelude.{Bool, true, false, not, ◌&&◌, ◌||◌, List, [], ◌∷◌, ◌++◌, eqb}
 use Rattle.std.proofs.Math.Option.{Option, none, some}
 use Rattle.geometry.specs.Words.{all_of, all, any}
 use Rattle.geometry.specs.Placing.{turn_number}

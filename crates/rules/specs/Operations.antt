@@ -1,6 +1,6 @@
 -- Ask, offer, withdraw: each row's checks, left to right, and the answer where none holds; and the numbers and values of each answer.
 -- Assumes nothing.
-use Rattle.std.specs.Prelude.{ℕ, ◌+◌, ◌-◌, Bool, cond, not, ◌&&◌, ◌||◌, List, [], ◌∷◌, get_or, set, leb, ltb, eqb}
+use Rattle.std.specs.Prelude.{ℕ, ◌+◌, ◌-◌, Bool, cond, not, ◌&&◌, List, [], ◌∷◌, get_or, set, leb, eqb}
 use Rattle.std.proofs.Math.Option.{Option, none, some}
 use Rattle.geometry.specs.Words.{any, within}
 use Rattle.geometry.specs.Placing.{lying, orientations, is_found, turn_number}

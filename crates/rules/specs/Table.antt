@@ -66,7 +66,7 @@ trim_lines =
     -- the page is asked with the whole size, and takes the trimmed cell
     (answers one_page_trimming (offer_of speck 0 4 4 ∷ offer_of speck 1 4 4 ∷ []), at 0 0 0 1 1 ∷ refused 10 ∷ [])
     ∷ (answers (trimming 4 5) (offer_of mixed 0 3 1 ∷ Offer mixed (key 1) (image Symbols 12 2 2) ∷ []), at 0 0 0 3 1 ∷ at 0 3 0 1 1 ∷ [])
-    -- turned, the record's box is swapped back: the layout stays well_formed and faithful
+    -- turned, the record's box is swapped back: the layout stays well-formed and faithful
     ∷ (answers rotating_trimming (offer_of column 0 4 4 ∷ offer_of column 1 4 4 ∷ []), turned_at 0 0 0 3 1 ∷ turned_at 0 3 0 3 1 ∷ [])
     ∷ (record_after rotating_trimming (offer_of column 0 4 4 ∷ []) 0, record_numbers (made 0 0 0 0 3 1 Turned true 1 0 4 4) ∷ [])
     -- all clear, and placed without trim
@@ -218,7 +218,7 @@ faithful_lines =
     ∷ (each (limited 5 6 1 256) (whole 0 1 0 0 4 3 ∷ []), all_refused 2)
     ∷ (each (limited 5 6 8 1) (whole 0 0 0 0 1 1 ∷ whole 0 0 0 0 1 1 ∷ []), all_refused 2)
     ∷ (each (plain 0 6) [], all_refused 2)
-    -- a refused open: 1, and the blank layout, which is not well_formed
+    -- a refused open: 1, and the blank layout, which is not well-formed
     ∷ (opens (plain 5 6), (0 ∷ []) ∷ [])
     ∷ (opens (plain 0 6), refused 1 ∷ [])
     ∷ (answers (plain 0 6) (ask 0 1 1 ∷ offer 9 1 1 ∷ Withdraw ∷ []), all_refused 2)

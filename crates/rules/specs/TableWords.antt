@@ -210,7 +210,7 @@ record_after c calls n = record_numbers (get_or (standing (layout_after (opened 
 unfoldable pub each : Config → List Record → List (List ℕ)
 each c rs = map (answer (filled c rs)) (ask 0 1 1 ∷ offer 9 1 1 ∷ Withdraw ∷ [])
 
--- 1 if these records are faithful, also where they are not well_formed
+-- 1 if these records are faithful, also where they are not well-formed
 unfoldable pub is_faithful : Config → List Record → List (List ℕ)
 is_faithful c rs = (cond (faithful (filled c rs)) 1 0 ∷ []) ∷ []
 

@@ -11,7 +11,7 @@ use lib.ListN.{length, get_or, set, length-set}
 use lib.Seq.{get_or-set_same, get_or-set_other}
 use Rattle.geometry.specs.declared.rect.Size.{Size}
 use Rattle.geometry.specs.declared.spot.Found.{Found}
-use Rattle.geometry.specs.Placing.{height, is_start, segment, top, fitting_at, candidates_from, rank, best_of}
+use Rattle.geometry.specs.Placing.{is_start, segment, top, fitting_at, candidates_from, rank, best_of}
 use Rattle.skyline.specs.Skyline.{Shape, Level, Starts, Holds}
 use Rattle.geometry.proofs.Heights.{no_height, top-level, top_bound, start-zero, start_yes, start_no, segment-is}
 use Rattle.skyline.proofs.Search.{search_segment}

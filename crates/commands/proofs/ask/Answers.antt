@@ -1,5 +1,4 @@
 use mathlib.Core.Path.{◌∙◌, subst}
-use borrow.Author.Rules.{rules}
 use Rattle.rules.specs.Operations.{asked, asked_numbers}
 use Rattle.wire.specs.Saying.{Says}
 use Rattle.commands.specs.Reading.{page_at, size_at}

@@ -1,5 +1,4 @@
 use mathlib.Core.Path.{refl}
-use borrow.Author.Rules.{rules}
 use Rattle.art.specs.Stores.{pixel_from}
 use Rattle.wire.specs.Bytes.{word_bytes}
 use Rattle.commands.specs.Reading.{colour_of}

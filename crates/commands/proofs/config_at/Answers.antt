@@ -1,5 +1,4 @@
 use mathlib.Core.Path.{ap, ◌∙◌}
-use borrow.Author.Rules.{rules}
 use Rattle.wire.specs.Fields.{is_on}
 use Rattle.commands.specs.Reading.{config_at}
 use Rattle.commands.proofs.config_at.Goals as goal

@@ -1,5 +1,4 @@
 use mathlib.Core.Path.{◌∙◌, subst}
-use borrow.Author.Rules.{rules}
 use Rattle.coords.specs.Coordinates.{located, located_numbers}
 use Rattle.wire.specs.Saying.{Says}
 use Rattle.commands.specs.Reading.{key_at, request_of}

@@ -1,7 +1,6 @@
 use Prim.Native.Nat.{ℕ}
 use native.Mathlib.Omega.{arith}
 use mathlib.Core.Path.{◌≡◌, sym, subst, refl}
-use borrow.Author.Rules.{rules}
 use Rattle.art.specs.Stores.{lent}
 use Rattle.commands.specs.Taking.{There, words_of}
 use Rattle.commands.specs.Telling.{Tells, told, ask_told, size_told, pixel_told}

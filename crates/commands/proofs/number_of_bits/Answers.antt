@@ -3,7 +3,6 @@ use mathlib.Core.Path.{◌≡◌, refl, sym, ◌∙◌, subst}
 use lib.Dec.{T}
 use lib.Ieee.{div, of_bits, nan_bits, binary32, nan}
 use lib.Ieee.Bits.{nan_bits_is}
-use borrow.Author.Rules.{rules}
 use Rattle.commands.proofs.Tells.{one_nan}
 use Rattle.commands.proofs.number_of_bits.Goals as goal
 

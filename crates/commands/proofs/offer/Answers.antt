@@ -1,5 +1,4 @@
 use mathlib.Core.Path.{ap, ◌∙◌, subst}
-use borrow.Author.Rules.{rules}
 use Rattle.art.specs.Stores.{lent}
 use Rattle.rules.specs.Operations.{offered, offered_numbers}
 use Rattle.wire.specs.Fields.{store_of}

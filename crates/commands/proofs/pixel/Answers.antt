@@ -1,5 +1,4 @@
 use mathlib.Core.Path.{◌∙◌, subst}
-use borrow.Author.Rules.{rules}
 use Rattle.art.specs.Stores.{lent}
 use Rattle.lookup.specs.Looking.{looked, looked_numbers}
 use Rattle.wire.specs.Saying.{Says}

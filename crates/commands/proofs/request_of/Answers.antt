@@ -1,5 +1,4 @@
 use mathlib.Core.Path.{ap}
-use borrow.Author.Rules.{rules}
 use borrow.Author.Tests.{eq-eqb, ne_eqb}
 use Rattle.coords.specs.declared.locate.Request.TheVariants.{Inset}
 use Rattle.commands.specs.Reading.{request_of}

@@ -1,4 +1,3 @@
-use borrow.Author.Rules.{rules}
 use borrow.Author.Tests.{lt-ltb, le-ltb}
 use Rattle.commands.specs.Reading.{threshold_of}
 use Rattle.commands.proofs.threshold_of.Goals as goal

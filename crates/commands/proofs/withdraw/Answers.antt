@@ -1,5 +1,4 @@
 use mathlib.Core.Path.{ap, subst}
-use borrow.Author.Rules.{rules}
 use Rattle.rules.specs.Operations.{withdrawn_numbers}
 use Rattle.wire.specs.Saying.{Says}
 use Rattle.commands.specs.Telling.{withdraw_told}

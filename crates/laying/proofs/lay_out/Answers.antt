@@ -1,4 +1,3 @@
-use borrow.Author.Rules.{rules}
 use Rattle.laying.proofs.Offers.{open_stops, open_done}
 use Rattle.laying.proofs.lay_out.Goals as goal
 

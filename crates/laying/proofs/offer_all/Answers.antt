@@ -1,13 +1,10 @@
 use native.Mathlib.Omega.{arith}
-use borrow.Author.Rules.{rules}
-use borrow.Author.Tests.{ltb-true, not-true, not-false}
+use borrow.Author.Tests.{ltb-true}
 use Rattle.geometry.proofs.Words.{and_left, and_right}
-use Prim.Native.Nat.{◌-◌, ◌≤◌, ◌<◌, min}
-use Rattle.art.specs.Stores.{lent}
-use Rattle.laying.specs.Laying.{wanted, offering}
+use Prim.Native.Nat.{◌≤◌, ◌<◌, min}
 use Rattle.laying.proofs.Offers.{not_both_under, all-offered, offers_on, offers_stop}
 use lib.Dec.{ltb}
-use lib.ListN.{length, length-map, drop}
+use lib.ListN.{length}
 use mathlib.Core.Path.{◌≡◌, refl, sym, ◌∙◌}
 use Rattle.laying.proofs.offer_all.Goals.{Start}
 use Rattle.laying.proofs.offer_all.Goals.{In-loop-k}

@@ -1,14 +1,8 @@
-use native.Mathlib.Omega.{arith}
-use borrow.Author.Rules.{rules}
-use borrow.Author.Tests.{ltb-true, not-true, not-false}
-use Rattle.geometry.proofs.Words.{and_left, and_right}
-use Prim.Native.Nat.{◌-◌, ◌≤◌, ◌<◌, min}
+use Prim.Native.Nat.{◌-◌, ◌≤◌}
 use Rattle.art.specs.Stores.{lent}
 use Rattle.laying.specs.Laying.{wanted, offering}
-use Rattle.laying.proofs.Offers.{not_both_under, all-offered, offers_on, offers_stop}
-use lib.Dec.{ltb}
-use lib.ListN.{length, length-map, drop}
-use mathlib.Core.Path.{◌≡◌, refl, sym, ◌∙◌}
+use lib.ListN.{drop}
+use mathlib.Core.Path.{◌≡◌}
 use Rattle.laying.proofs.offer_all.Given as goal
 
 -- `offer_all` has offered the images before place k. Assumes nothing.

@@ -1,4 +1,3 @@
-use borrow.Author.Rules.{rules}
 use Rattle.laying.proofs.Offers.{offered_one_lem}
 use Rattle.laying.proofs.offer_one.Goals as goal
 

@@ -1,5 +1,4 @@
 use mathlib.Core.Path.{sym, ap}
-use borrow.Author.Rules.{rules}
 use Rattle.laying.specs.Laying.{stop_of}
 use Rattle.laying.proofs.stop_of.Goals as goal
 

@@ -1,5 +1,4 @@
 use Rattle.offers.proofs.Keeping.{bad-is}
-use borrow.Author.Rules.{rules}
 use Rattle.offers.proofs.bad_size.Goals as goal
 
 pub returns : goal.returns

@@ -1,5 +1,4 @@
 use Rattle.offers.proofs.Keeping.{kept_trim, kept_whole}
-use borrow.Author.Rules.{rules}
 use Rattle.offers.proofs.kept_box.Goals as goal
 
 pub returns-then-trim : goal.returns-then-trim

@@ -2,7 +2,7 @@ use Prim.Native.Nat.{◌≤◌}
 use mathlib.Core.Option.{none, some}
 use mathlib.Core.Path.{◌≡◌, sym, ◌∙◌}
 use native.Mathlib.Omega.{arith}
-use lib.ListN.{length, length-map}
+use lib.ListN.{length}
 use Rattle.records.proofs.Pages.{count_least, count-few}
 use Rattle.records.proofs.Standing.{standing-long}
 use Rattle.records.proofs.Checks.{Formed, formed}
@@ -12,7 +12,6 @@ use Rattle.records.specs.Layouts.{standing, page_count}
 use Rattle.faithful.specs.declared.placing.Outcome.TheVariants.{Full, Nowhere, Stood}
 use Rattle.offers.specs.Offers.{outcome}
 use Rattle.offers.proofs.Rows.{refused, room_large, room_images, room_pages, room-none, full_pages, open_pages, placed-answer, nowhere-answer}
-use borrow.Author.Rules.{rules}
 use Rattle.offers.proofs.offer_art.Goals.{Start}
 use Rattle.offers.proofs.offer_art.Goals.{After-place_art}
 use Rattle.offers.proofs.offer_art.Goals as goal

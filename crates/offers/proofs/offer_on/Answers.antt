@@ -1,7 +1,7 @@
 use mathlib.Core.Bool.{false}
 use mathlib.Core.Path.{◌≡◌, sym, ◌∙◌}
 use native.Mathlib.Omega.{arith}
-use lib.ListN.{length, length-map}
+use lib.ListN.{length}
 use Rattle.geometry.specs.Words.{any}
 use Rattle.art.specs.Stores.{Stores, lent, runs_past}
 use Rattle.records.proofs.Keys.{named, unnamed}
@@ -12,7 +12,6 @@ use Rattle.records.specs.Layouts.{standing, has_key}
 use Rattle.rules.specs.Operations.{bad_size}
 use Rattle.offers.proofs.Keeping.{kept_clear, KeptBox, kept_box, sized, sized_kept}
 use Rattle.offers.proofs.Rows.{refused, rest-size, rest-store, rest-key, rest-clear, rest-made, art_made}
-use borrow.Author.Rules.{rules}
 use Rattle.art.specs.declared.trim.Trimmed.TheVariants.{AllClear as ClearImage, To}
 use Rattle.offers.proofs.offer_on.Goals.{Start}
 use Rattle.offers.proofs.offer_on.Goals.{Else-find_key-l}

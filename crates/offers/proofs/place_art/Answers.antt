@@ -7,7 +7,6 @@ use Rattle.records.specs.declared.frame.Record.{Record}
 use Rattle.records.proofs.Checks.{bounded}
 use Rattle.rules.specs.Placing.{cells_on, page_for}
 use Rattle.faithful.specs.Replay.{Skies}
-use borrow.Author.Rules.{rules}
 use Rattle.faithful.proofs.Replays.{stands_as, page-is, put_as}
 use Rattle.offers.proofs.Placings.{near, step-full, step-here}
 use Rattle.offers.proofs.place_art.Goals.{After-first_page-p}

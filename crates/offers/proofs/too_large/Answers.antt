@@ -1,5 +1,4 @@
 use Rattle.offers.proofs.Keeping.{large_upright, large_turned, large_neither}
-use borrow.Author.Rules.{rules}
 use Rattle.offers.proofs.too_large.Goals as goal
 
 pub returns-then-cell-area : goal.returns-then-cell-area

@@ -1,6 +1,5 @@
 use mathlib.Core.Path.{refl}
 use Rattle.rules.specs.Operations.{with_record}
-use borrow.Author.Rules.{rules}
 use Rattle.offers.proofs.with_record.Goals as goal
 
 pub returns : goal.returns

@@ -1,7 +1,5 @@
-use Prim.Native.Nat.{◌-◌}
 use Rattle.geometry.specs.Placing.{height}
 use Rattle.pages.proofs.Pages.{part-is}
-use borrow.Author.Rules.{rules}
 use Rattle.pages.proofs.can_pack_on.Goals as goal
 
 pub can_pack-requires : goal.can_pack-requires

@@ -1,13 +1,10 @@
 use Prim.Native.Nat.{ℕ, ◌-◌, ◌≤◌, ◌<◌}
-use mathlib.Core.Path.{◌≡◌, sym, ◌∙◌}
+use mathlib.Core.Path.{◌≡◌}
 use mathlib.Core.Bool.{false}
 use mathlib.Core.List.{List}
-use native.Mathlib.Omega.{arith}
-use borrow.Author.Count.{below_more}
 use Rattle.geometry.specs.declared.rect.Rect.{Rect}
 use Rattle.geometry.specs.Placing.{height, spot_for, is_found}
 use Rattle.pages.specs.Pages.{Stands}
-use Rattle.pages.proofs.Pages.{page-found, page-none}
 use Rattle.pages.proofs.first_page.Given as goal
 
 abbrev pub invariant-loop-p : goal.invariant-loop-p

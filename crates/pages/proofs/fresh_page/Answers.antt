@@ -1,7 +1,6 @@
 use mathlib.Core.Path.{◌≡◌, ap, ◌∙◌}
 use lib.ListN.{length}
 use Rattle.pages.proofs.Pages.{part-is, page-long, fresh_more}
-use borrow.Author.Rules.{rules}
 use Rattle.pages.proofs.fresh_page.Goals as goal
 
 pub returns : goal.returns

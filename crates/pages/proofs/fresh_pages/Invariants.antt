@@ -1,8 +1,5 @@
 use Prim.Native.Nat.{◌-◌, ◌≤◌}
-use mathlib.Core.Path.{◌≡◌, sym, ◌∙◌}
-use native.Mathlib.Omega.{arith}
 use Rattle.pages.specs.Pages.{Fresh}
-use Rattle.pages.proofs.Pages.{fresh_none, fresh_as}
 use Rattle.pages.proofs.fresh_pages.Given as goal
 
 abbrev pub invariant-loop-p : goal.invariant-loop-p

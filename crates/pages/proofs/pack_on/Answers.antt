@@ -1,9 +1,7 @@
-use Prim.Native.Nat.{◌-◌}
 use mathlib.Core.Path.{◌≡◌, ap, ◌∙◌}
 use native.Mathlib.Omega.{arith}
 use lib.ListN.{length}
 use Rattle.pages.proofs.Pages.{part-is, page-long, put-stands}
-use borrow.Author.Rules.{rules}
 use Rattle.pages.proofs.pack_on.Goals as goal
 
 pub pack-r-requires : goal.pack-r-requires

@@ -1,4 +1,3 @@
-use borrow.Author.Rules.{rules}
 use mathlib.Core.Path.{refl}
 use Rattle.art.specs.Stores.{pixel_from}
 use Rattle.art.proofs.memory_rgba8_texture.pixel_from.Goals as goal

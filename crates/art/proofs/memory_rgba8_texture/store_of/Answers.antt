@@ -1,4 +1,3 @@
-use borrow.Author.Rules.{rules}
 use Rattle.art.proofs.memory_rgba8_texture.store_of.Goals as goal
 
 pub returns-in-Symbols : goal.returns-in-Symbols

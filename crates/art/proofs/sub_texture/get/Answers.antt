@@ -1,4 +1,3 @@
-use borrow.Author.Rules.{rules}
 use Rattle.art.specs.Stores.{upright_pixel}
 use Rattle.art.proofs.sub_texture.get.Goals as goal
 

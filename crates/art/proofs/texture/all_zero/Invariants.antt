@@ -1,14 +1,6 @@
-use Prim.Native.Nat.{ℕ, suc, ◌+◌, ◌-◌, ◌*◌, ◌≤◌, ◌<◌}
-use native.Mathlib.Nat.{zero-mul, suc-mul, mul-le-mul_right}
-use native.Mathlib.Numerals.{add-one}
-use native.Mathlib.Omega.{arith}
-use mathlib.Core.Path.{◌≡◌, sym, ap, ◌∙◌}
-use mathlib.Core.Bool.{not}
-use borrow.Author.Count.{below_more}
-use borrow.Author.Tests.{eq-eqb, ne_eqb}
-use lib.ListN.{length, get_or}
-use Rattle.art.specs.Search.{is_set, any_set}
-use Rattle.art.proofs.Seen.{seen, none_seen}
+use Prim.Native.Nat.{ℕ, ◌+◌, ◌-◌, ◌*◌, ◌≤◌, ◌<◌}
+use mathlib.Core.Path.{◌≡◌}
+use lib.ListN.{get_or}
 use Rattle.art.proofs.texture.all_zero.Given as goal
 
 -- `all_zero` has passed k bytes of the run, one step apart, all of them 0. Assumes nothing.

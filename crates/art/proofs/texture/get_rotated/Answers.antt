@@ -1,4 +1,3 @@
-use borrow.Author.Rules.{rules}
 use Rattle.art.specs.Stores.{turned_point, turned_pixel}
 use Rattle.art.proofs.texture.get_rotated.Goals as goal
 

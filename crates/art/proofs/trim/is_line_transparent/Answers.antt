@@ -1,4 +1,3 @@
-use borrow.Author.Rules.{rules}
 use Rattle.art.proofs.trim.is_line_transparent.Goals as goal
 
 pub is_column_transparent-requires : goal.is_column_transparent-requires

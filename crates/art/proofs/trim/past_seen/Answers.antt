@@ -1,11 +1,10 @@
-use Prim.Native.Nat.{ℕ, ◌+◌, ◌-◌, ◌≤◌, ◌<◌}
+use Prim.Native.Nat.{◌+◌, ◌-◌}
 use mathlib.Core.Path.{◌≡◌, sym, ◌∙◌}
-use mathlib.Core.Bool.{false, not}
+use mathlib.Core.Bool.{not}
 use native.Mathlib.Omega.{arith}
-use borrow.Author.Rules.{rules}
 use borrow.Author.Tests.{not-true, not-false}
 use Rattle.art.specs.Stores.{lent}
-use Rattle.art.specs.Search.{lines_of, line_visible}
+use Rattle.art.specs.Search.{line_visible}
 use Rattle.art.proofs.Seen.{above_more, last-is, past_none}
 use Rattle.art.proofs.trim.past_seen.Goals.{After-is_line_transparent}
 use Rattle.art.proofs.trim.past_seen.Goals as goal

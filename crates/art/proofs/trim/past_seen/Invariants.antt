@@ -1,12 +1,8 @@
-use Prim.Native.Nat.{ℕ, ◌+◌, ◌-◌, ◌≤◌, ◌<◌}
-use mathlib.Core.Path.{◌≡◌, sym, ◌∙◌}
-use mathlib.Core.Bool.{false, not}
-use native.Mathlib.Omega.{arith}
-use borrow.Author.Rules.{rules}
-use borrow.Author.Tests.{not-true, not-false}
+use Prim.Native.Nat.{ℕ, ◌≤◌, ◌<◌}
+use mathlib.Core.Path.{◌≡◌}
+use mathlib.Core.Bool.{false}
 use Rattle.art.specs.Stores.{lent}
 use Rattle.art.specs.Search.{lines_of, line_visible}
-use Rattle.art.proofs.Seen.{above_more, last-is, past_none}
 use Rattle.art.proofs.trim.past_seen.Given as goal
 
 -- `past_seen` has found no visible line from line k on. Assumes nothing.

@@ -5,13 +5,11 @@ use mathlib.Core.Path.{◌≡◌, refl, sym, ap, ◌∙◌}
 use mathlib.Core.List.{◌++◌}
 use lib.ListN.{length, take, drop, length-append, length-drop}
 use lib.Seq.{length-take-le}
-use borrow.Author.Rules.{rules}
-use borrow.Author.Tests.{not-true, not-false}
 use Rattle.art.specs.Stores.{lent}
 use Rattle.paint.specs.Pictures.{composed_at}
 use Rattle.compose.specs.Checking.{compared}
 use Rattle.compose.specs.Comparing.{is_same}
-use Rattle.compose.proofs.Comparing.{SameBefore, all_same, part_same, part-differs}
+use Rattle.compose.proofs.Comparing.{all_same, part_same, part-differs}
 use Rattle.compose.proofs.checking.check_band.Goals.{After-rows_at_once-n}
 use Rattle.compose.proofs.checking.check_band.Goals.{After-is_same}
 use Rattle.compose.proofs.checking.check_band.Goals as goal

@@ -1,5 +1,4 @@
 use mathlib.Core.Path.{sym, subst}
-use borrow.Author.Rules.{rules}
 use Rattle.paint.specs.Painting.{Shows}
 use Rattle.paint.proofs.Pictures.{picture_shows}
 use Rattle.compose.proofs.checking.check_part.Goals as goal

@@ -8,7 +8,6 @@ use Rattle.records.proofs.Answers.{says}
 use Rattle.records.proofs.Pages.{side_w, side_h}
 use Rattle.compose.specs.Checking.{checked_numbers}
 use Rattle.compose.proofs.Answers.{Unrefused, done_unrefused, check_refused, check_compared}
-use borrow.Author.Rules.{rules}
 use Rattle.compose.proofs.checking.check_rows.Goals.{In-Done}
 use Rattle.compose.proofs.checking.check_rows.Goals as goal
 

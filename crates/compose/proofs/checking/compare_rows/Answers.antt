@@ -1,4 +1,4 @@
-use Prim.Native.Nat.{ℕ, ◌+◌, ◌*◌, ◌-◌, ◌≤◌}
+use Prim.Native.Nat.{ℕ, ◌+◌, ◌*◌}
 use native.Mathlib.Omega.{arith}
 use mathlib.Core.Path.{◌≡◌, sym, ◌∙◌}
 use borrow.Author.Count.{below_more}
@@ -8,7 +8,7 @@ use Rattle.art.specs.Trimming.{first_seen}
 use Rattle.paint.specs.Painting.{Shows}
 use Rattle.paint.proofs.Frames.{row_fits}
 use Rattle.compose.specs.Checking.{differs}
-use Rattle.compose.proofs.Comparing.{SameBefore, row-off, all_same, first-differs, column-is, column-full}
+use Rattle.compose.proofs.Comparing.{row-off, all_same, first-differs, column-is, column-full}
 use Rattle.compose.proofs.checking.compare_rows.Goals.{After-first_off-x}
 use Rattle.compose.proofs.checking.compare_rows.Goals as goal
 

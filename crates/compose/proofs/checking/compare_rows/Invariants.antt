@@ -1,14 +1,7 @@
-use Prim.Native.Nat.{ℕ, ◌+◌, ◌*◌, ◌-◌, ◌≤◌}
-use native.Mathlib.Omega.{arith}
-use mathlib.Core.Path.{◌≡◌, sym, ◌∙◌}
-use borrow.Author.Count.{below_more}
-use Rattle.geometry.proofs.Rects.{product_fits}
+use Prim.Native.Nat.{ℕ, ◌-◌, ◌≤◌}
 use Rattle.art.specs.declared.memory_rgba8_texture.Pixel.{Pixel}
-use Rattle.art.specs.Trimming.{first_seen}
 use Rattle.paint.specs.Painting.{Shows}
-use Rattle.paint.proofs.Frames.{row_fits}
-use Rattle.compose.specs.Checking.{differs}
-use Rattle.compose.proofs.Comparing.{SameBefore, row-off, all_same, first-differs, column-is, column-full}
+use Rattle.compose.proofs.Comparing.{SameBefore}
 use Rattle.compose.proofs.checking.compare_rows.Given as goal
 
 -- `compare_rows` has found no difference in the rows that it passed. Assumes nothing.

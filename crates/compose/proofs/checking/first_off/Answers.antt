@@ -1,7 +1,6 @@
-use Prim.Native.Nat.{ℕ, ◌-◌, ◌≤◌, ◌<◌}
 use native.Mathlib.Omega.{arith}
 use mathlib.Core.Path.{◌≡◌, sym, ap, ◌∙◌}
-use mathlib.Core.Bool.{false, not}
+use mathlib.Core.Bool.{not}
 use borrow.Author.Count.{below_more}
 use Rattle.art.proofs.Seen.{first-is, first-none}
 use Rattle.compose.specs.Comparing.{off_at}

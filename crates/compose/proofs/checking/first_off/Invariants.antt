@@ -1,9 +1,6 @@
 use Prim.Native.Nat.{ℕ, ◌-◌, ◌≤◌, ◌<◌}
-use native.Mathlib.Omega.{arith}
-use mathlib.Core.Path.{◌≡◌, sym, ap, ◌∙◌}
-use mathlib.Core.Bool.{false, not}
-use borrow.Author.Count.{below_more}
-use Rattle.art.proofs.Seen.{first-is, first-none}
+use mathlib.Core.Path.{◌≡◌}
+use mathlib.Core.Bool.{false}
 use Rattle.compose.specs.Comparing.{off_at}
 use Rattle.compose.proofs.checking.first_off.Given as goal
 

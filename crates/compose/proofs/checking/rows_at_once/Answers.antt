@@ -1,7 +1,6 @@
 use Prim.Native.Nat.{ℕ, ◌*◌, ◌/◌, ◌≤◌}
 use native.Mathlib.Omega.{arith}
 use native.Mathlib.Nat.{mul-le-mul_left, mul-div-le, le-div_iff_mul-le}
-use borrow.Author.Rules.{rules}
 use Rattle.compose.proofs.checking.rows_at_once.Goals as goal
 
 one-fits : (w : ℕ) → 1 ≤ w → w ≤ 6271 → 1 ≤ 6271 / w

@@ -2,7 +2,6 @@ use Prim.Native.Nat.{◌*◌, ◌≤◌}
 use native.Mathlib.Omega.{arith}
 use native.Mathlib.Nat.{mul-le-mul}
 use mathlib.Core.Path.{refl}
-use borrow.Author.Rules.{rules}
 use Rattle.compose.specs.Composing.{bad_length}
 use Rattle.compose.proofs.image_exporter.bad_length.Goals.{Start}
 use Rattle.compose.proofs.image_exporter.bad_length.Goals as goal

@@ -2,14 +2,12 @@ use native.Mathlib.Omega.{arith}
 use mathlib.Core.Bool.{true, false, not}
 use mathlib.Core.Logic.{inl, inr}
 use mathlib.Core.Path.{◌≡◌, refl, sym, ap, ◌∙◌}
-use borrow.Author.Tests.{not-false}
 use Rattle.geometry.specs.declared.rect.Size.{Size}
 use Rattle.records.specs.Layouts.{well_formed, size_of_page}
 use Rattle.records.specs.Operations.{no_such_page}
 use Rattle.records.proofs.Pages.{side_w, side_h}
 use Rattle.compose.specs.Composing.{empty_page, bad_rows, bad_length}
 use Rattle.compose.proofs.Answers.{no_page, a_page, band_refuses, band-passes, rows_few}
-use borrow.Author.Rules.{rules}
 use Rattle.compose.proofs.image_exporter.band_answer.Goals.{Else-not-well_formed}
 use Rattle.compose.proofs.image_exporter.band_answer.Goals.{Else-page_count-page}
 use Rattle.compose.proofs.image_exporter.band_answer.Goals.{Else-empty_page}

@@ -7,7 +7,6 @@ use Rattle.art.specs.Stores.{lent}
 use Rattle.records.proofs.Pages.{side_w, side_h}
 use Rattle.compose.specs.Composing.{composed_numbers}
 use Rattle.compose.proofs.Answers.{Unrefused, done_unrefused, answer-is, buffer_kept, buffer_composed, band-is}
-use borrow.Author.Rules.{rules}
 use Rattle.compose.proofs.image_exporter.compose_rows.Goals.{In-Done}
 use Rattle.compose.proofs.image_exporter.compose_rows.Goals as goal
 

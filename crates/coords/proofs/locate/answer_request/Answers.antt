@@ -1,7 +1,5 @@
 use mathlib.Core.Path.{sym, ap, ◌∙◌}
 use lib.Ieee.{of_bits}
-use borrow.Author.Tests.{not-true, not-false}
-use borrow.Author.Rules.{rules}
 use Rattle.coords.specs.Parts.{requested}
 use Rattle.coords.specs.declared.locate.Request.{Request}
 use Rattle.coords.proofs.Answers.{ask-pixels, ask_edges, ask-inset, ask-not-between}

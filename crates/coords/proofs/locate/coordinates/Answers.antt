@@ -2,9 +2,7 @@ use Prim.Native.Nat.{ℕ, ◌<◌}
 use native.Mathlib.Omega.{arith}
 use mathlib.Core.Bool.{true}
 use mathlib.Core.Path.{◌≡◌, sym, ap, ◌∙◌}
-use lib.ListN.{length, length-map, get_or}
-use borrow.Author.Tests.{not-true, not-false}
-use borrow.Author.Rules.{rules}
+use lib.ListN.{length, get_or}
 use Rattle.records.specs.Settings.{blank_record}
 use Rattle.records.specs.Layouts.{standing, well_formed, key_place}
 use Rattle.records.proofs.Answers.{says}

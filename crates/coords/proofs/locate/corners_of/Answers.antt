@@ -1,4 +1,3 @@
-use borrow.Author.Rules.{rules}
 use Rattle.coords.specs.Coordinates.{corners}
 use Rattle.coords.proofs.locate.corners_of.Goals as goal
 

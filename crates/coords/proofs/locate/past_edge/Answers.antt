@@ -1,5 +1,4 @@
 use mathlib.Core.Path.{refl}
-use borrow.Author.Rules.{rules}
 use Rattle.coords.specs.Coordinates.{past_edge}
 use Rattle.coords.proofs.locate.past_edge.Goals as goal
 

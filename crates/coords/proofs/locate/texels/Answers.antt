@@ -1,5 +1,4 @@
 use mathlib.Core.Path.{sym, ap, ◌∙◌}
-use borrow.Author.Rules.{rules}
 use Rattle.coords.specs.declared.locate.Located.TheVariants.{Texels}
 use Rattle.coords.proofs.Answers.{texels_past, texels_in}
 use Rattle.coords.proofs.locate.texels.Goals as goal

@@ -2,7 +2,6 @@ use mathlib.Core.Path.{◌≡◌}
 use native.Mathlib.Omega.{arith}
 use Rattle.geometry.specs.declared.spot.Found.TheVariants.{Nothing, At}
 use Rattle.records.proofs.Checks.{bounded}
-use borrow.Author.Rules.{rules}
 use Rattle.faithful.proofs.Spots.{stood-none, stood-at}
 use Rattle.faithful.proofs.placing.record_for.Goals.{In-At}
 use Rattle.faithful.proofs.placing.record_for.Goals as goal

@@ -1,14 +1,11 @@
-use Prim.Native.Nat.{◌-◌, ◌≤◌}
-use mathlib.Core.Path.{◌≡◌, refl, sym, ◌∙◌}
+use mathlib.Core.Path.{◌≡◌, refl}
 use native.Mathlib.Omega.{arith}
-use lib.ListN.{length, length-map, take}
-use borrow.Author.Tests.{not-true, not-false}
+use lib.ListN.{length, take}
 use Rattle.records.specs.Settings.{blank_record}
 use Rattle.records.specs.Layouts.{standing}
 use Rattle.records.proofs.Checks.{Formed, formed, good-holds}
 use Rattle.records.proofs.Standing.{standing-good}
-use borrow.Author.Rules.{rules}
-use Rattle.faithful.proofs.Sofar.{long-take, Sofar, sofar_none, sofar_stop, sofar_more, sofar_done}
+use Rattle.faithful.proofs.Sofar.{long-take, sofar_none, sofar_stop, sofar_more, sofar_done}
 use Rattle.faithful.proofs.replaying.replay.Goals.{Start}
 use Rattle.faithful.proofs.replaying.replay.Goals as goal
 

@@ -7,7 +7,6 @@ use Rattle.records.specs.declared.frame.Record.{Record}
 use Rattle.records.proofs.Checks.{bounded, good}
 use Rattle.rules.specs.Placing.{cell_size, cells_on, page_for}
 use Rattle.faithful.specs.Replay.{Skies}
-use borrow.Author.Rules.{rules}
 use Rattle.faithful.proofs.Replays.{sized_whole, sized_box, box_cell, stands_as, page-is, put_as, replay_elsewhere, replay_here}
 use Rattle.faithful.proofs.replaying.replay_one.Goals.{After-first_page-p}
 use Rattle.faithful.proofs.replaying.replay_one.Goals as goal

@@ -1,7 +1,6 @@
 use mathlib.Core.Path.{◌≡◌}
 use Rattle.geometry.specs.declared.spot.Found.TheVariants.{Nothing, At}
 use Rattle.records.proofs.Checks.{good}
-use borrow.Author.Rules.{rules}
 use Rattle.faithful.proofs.Replays.{same-nothing, same-found}
 use Rattle.faithful.proofs.replaying.same_spot.Goals.{In-At}
 use Rattle.faithful.proofs.replaying.same_spot.Goals as goal

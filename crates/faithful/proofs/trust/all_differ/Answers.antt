@@ -1,8 +1,5 @@
-use Prim.Native.Nat.{◌-◌, ◌≤◌}
-use mathlib.Core.Path.{◌≡◌, refl}
+use mathlib.Core.Path.{refl}
 use native.Mathlib.Omega.{arith}
-use lib.ListN.{length, drop}
-use Rattle.faithful.specs.Replay.{distinct}
 use Rattle.faithful.proofs.Trusting.{distinct_hit, distinct_more, distinct_end}
 use Rattle.faithful.proofs.trust.all_differ.Goals as goal
 

@@ -1,9 +1,7 @@
 use Prim.Native.Nat.{◌-◌, ◌≤◌}
-use mathlib.Core.Path.{◌≡◌, refl}
-use native.Mathlib.Omega.{arith}
+use mathlib.Core.Path.{◌≡◌}
 use lib.ListN.{length, drop}
 use Rattle.faithful.specs.Replay.{distinct}
-use Rattle.faithful.proofs.Trusting.{distinct_hit, distinct_more, distinct_end}
 use Rattle.faithful.proofs.trust.all_differ.Given as goal
 
 abbrev pub invariant-loop-i : goal.invariant-loop-i

@@ -1,12 +1,9 @@
-use Prim.Native.Nat.{◌-◌, ◌≤◌}
+use Prim.Native.Nat.{◌≤◌}
 use mathlib.Core.Path.{◌≡◌, refl}
-use mathlib.Core.List.{map}
 use native.Mathlib.Omega.{arith}
-use lib.ListN.{length, length-map, length-set, take}
+use lib.ListN.{length, length-set}
 use Rattle.records.specs.Settings.{blank_record}
-use Rattle.records.specs.Layouts.{standing}
 use Rattle.records.proofs.Checks.{formed}
-use Rattle.faithful.specs.Replay.{key_of}
 use Rattle.faithful.proofs.Trusting.{keys_more, keys_done}
 use Rattle.faithful.proofs.trust.copy_keys.Goals.{Start}
 use Rattle.faithful.proofs.trust.copy_keys.Goals as goal

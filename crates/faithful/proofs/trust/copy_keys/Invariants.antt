@@ -1,13 +1,9 @@
 use Prim.Native.Nat.{◌-◌, ◌≤◌}
-use mathlib.Core.Path.{◌≡◌, refl}
+use mathlib.Core.Path.{◌≡◌}
 use mathlib.Core.List.{map}
-use native.Mathlib.Omega.{arith}
-use lib.ListN.{length, length-map, length-set, take}
-use Rattle.records.specs.Settings.{blank_record}
+use lib.ListN.{length, take}
 use Rattle.records.specs.Layouts.{standing}
-use Rattle.records.proofs.Checks.{formed}
 use Rattle.faithful.specs.Replay.{key_of}
-use Rattle.faithful.proofs.Trusting.{keys_more, keys_done}
 use Rattle.faithful.proofs.trust.copy_keys.Given as goal
 
 abbrev pub invariant-loop-i : goal.invariant-loop-i

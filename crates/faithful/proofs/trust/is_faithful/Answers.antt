@@ -1,5 +1,3 @@
-use borrow.Author.Tests.{not-true, not-false}
-use borrow.Author.Rules.{rules}
 use Rattle.faithful.proofs.Trusting.{test_keys, test_whole, test_all}
 use Rattle.faithful.proofs.trust.is_faithful.Goals as goal
 

@@ -1,10 +1,8 @@
 use Prim.Native.Nat.{ℕ, ◌-◌, ◌≤◌}
-use mathlib.Core.Path.{◌≡◌, refl}
-use native.Mathlib.Omega.{arith}
+use mathlib.Core.Path.{◌≡◌}
 use lib.ListN.{length, drop}
 use lib.Dec.{eqb}
 use Rattle.geometry.specs.Words.{any}
-use Rattle.faithful.proofs.Trusting.{any_hit, any_more, any_end}
 use Rattle.faithful.proofs.trust.key_later.Given as goal
 
 abbrev pub invariant-loop-j : goal.invariant-loop-j

@@ -3,7 +3,6 @@ use native.Mathlib.Omega.{arith}
 use lib.Seq.{length-take-le}
 use Rattle.records.proofs.Checks.{formed}
 use Rattle.faithful.specs.Replay.{distinct}
-use borrow.Author.Rules.{rules}
 use Rattle.faithful.proofs.Trusting.{keys_distinct}
 use Rattle.faithful.proofs.trust.keys_differ.Goals as goal
 

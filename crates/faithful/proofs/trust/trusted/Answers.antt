@@ -1,6 +1,4 @@
 use mathlib.Core.Path.{sym, ◌∙◌}
-use borrow.Author.Tests.{not-true, not-false}
-use borrow.Author.Rules.{rules}
 use Rattle.faithful.proofs.Trusting.{trust-unformed, trust-not, trust_on}
 use Rattle.faithful.proofs.trust.trusted.Goals as goal
 

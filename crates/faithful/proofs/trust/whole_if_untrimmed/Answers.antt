@@ -1,4 +1,3 @@
-use borrow.Author.Rules.{rules}
 use Rattle.faithful.proofs.Trusting.{whole_trim, whole_row}
 use Rattle.faithful.proofs.trust.whole_if_untrimmed.Goals as goal
 

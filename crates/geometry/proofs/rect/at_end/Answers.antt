@@ -1,5 +1,4 @@
 use Rattle.geometry.specs.Rects.{at_end}
-use borrow.Author.Rules.{rules}
 use Rattle.geometry.proofs.rect.at_end.Goals as goal
 
 pub returns : goal.returns

@@ -1,6 +1,5 @@
 use native.Mathlib.Omega.{arith}
 use Rattle.geometry.proofs.Rects.{inside-before, inside_past, inside-from}
-use borrow.Author.Rules.{rules}
 use Rattle.geometry.proofs.rect.in_span.Goals as goal
 
 pub returns-then-b-a : goal.returns-then-b-a

@@ -1,4 +1,3 @@
-use borrow.Author.Rules.{rules}
 use Rattle.geometry.proofs.Choices.{choice-none, choice-first, choice_new, choice-old}
 use Rattle.geometry.proofs.spot.choose.Goals as goal
 

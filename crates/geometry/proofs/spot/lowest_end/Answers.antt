@@ -1,6 +1,5 @@
 use native.Mathlib.Omega.{arith}
 use Rattle.geometry.proofs.Choices.{lowest-none, lowest_above, lowest_edge}
-use borrow.Author.Rules.{rules}
 use Rattle.geometry.proofs.spot.lowest_end.Goals as goal
 
 pub returns-in-Nothing : goal.returns-in-Nothing

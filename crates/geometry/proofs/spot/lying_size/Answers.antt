@@ -1,5 +1,4 @@
 use Rattle.geometry.specs.Placing.{lying}
-use borrow.Author.Rules.{rules}
 use Rattle.geometry.proofs.spot.lying_size.Goals as goal
 
 pub returns-in-Upright : goal.returns-in-Upright

@@ -4,7 +4,6 @@ use mathlib.Core.Bool.{◌&&◌}
 use lib.Dec.{eqb}
 use Rattle.job.specs.Bytes.{bytes_of}
 use Rattle.job.specs.Lines.{clear_ok}
-use borrow.Author.Rules.{rules}
 use Rattle.job.proofs.lines.clear_ok.Goals as goal
 
 pub returns : goal.returns

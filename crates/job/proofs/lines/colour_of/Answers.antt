@@ -1,6 +1,5 @@
 use Rattle.paint.specs.declared.background.Background.TheVariants.{Colour}
 use Rattle.job.specs.Lines.{colour_of}
-use borrow.Author.Rules.{rules}
 use Rattle.job.proofs.lines.colour_of.Goals as goal
 
 pub returns : goal.returns

@@ -6,7 +6,6 @@ use lib.ListN.{length}
 use Rattle.job.specs.Words.{split, word, is_part, is_switch, is_threshold}
 use Rattle.job.specs.Lines.{colour_ok}
 use Rattle.records.proofs.Rows.{joined}
-use borrow.Author.Rules.{rules}
 use Rattle.job.proofs.lines.colour_ok.Goals as goal
 
 pub returns : goal.returns

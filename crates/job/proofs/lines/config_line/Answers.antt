@@ -4,7 +4,6 @@ use Rattle.job.specs.Words.{split}
 use Rattle.job.specs.declared.lines.Line.TheVariants.{Settings, Malformed}
 use Rattle.job.specs.declared.lines.Trouble.TheVariants.{BadConfig}
 use Rattle.job.proofs.Picks.{picked, passed}
-use borrow.Author.Rules.{rules}
 use Rattle.job.proofs.lines.config_line.Goals as goal
 
 pub returns-then-config_ok : goal.returns-then-config_ok

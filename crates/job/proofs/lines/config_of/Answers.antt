@@ -1,5 +1,4 @@
 use Rattle.job.specs.Lines.{config_of}
-use borrow.Author.Rules.{rules}
 use Rattle.job.proofs.lines.config_of.Goals as goal
 
 pub returns : goal.returns

@@ -6,7 +6,6 @@ use lib.ListN.{length}
 use Rattle.job.specs.Words.{split, word, is_number, is_switch}
 use Rattle.job.specs.Lines.{config_ok}
 use Rattle.records.proofs.Rows.{joined}
-use borrow.Author.Rules.{rules}
 use Rattle.job.proofs.lines.config_ok.Goals as goal
 
 pub returns : goal.returns

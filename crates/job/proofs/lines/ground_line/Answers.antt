@@ -6,7 +6,6 @@ use Rattle.paint.specs.declared.background.Background.TheVariants.{Clear}
 use Rattle.job.specs.declared.lines.Line.TheVariants.{Ground, Malformed}
 use Rattle.job.specs.declared.lines.Trouble.TheVariants.{BadBackground}
 use Rattle.job.proofs.Picks.{picked, passed}
-use borrow.Author.Rules.{rules}
 use Rattle.job.proofs.lines.ground_line.Goals as goal
 
 pub returns-then-clear_ok : goal.returns-then-clear_ok

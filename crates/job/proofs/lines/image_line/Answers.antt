@@ -4,7 +4,6 @@ use Rattle.job.specs.Words.{split}
 use Rattle.job.specs.declared.lines.Line.TheVariants.{Picture, Malformed}
 use Rattle.job.specs.declared.lines.Trouble.TheVariants.{BadImage}
 use Rattle.job.proofs.Picks.{picked, passed}
-use borrow.Author.Rules.{rules}
 use Rattle.job.proofs.lines.image_line.Goals as goal
 
 pub returns-then-image_ok : goal.returns-then-image_ok

@@ -1,5 +1,4 @@
 use Rattle.job.specs.Lines.{image_of}
-use borrow.Author.Rules.{rules}
 use Rattle.job.proofs.lines.image_of.Goals as goal
 
 pub returns : goal.returns

@@ -1,5 +1,4 @@
 use Rattle.job.specs.Lines.{pixel_of}
-use borrow.Author.Rules.{rules}
 use Rattle.job.proofs.lines.pixel_of.Goals as goal
 
 pub returns : goal.returns

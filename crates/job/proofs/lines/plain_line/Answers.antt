@@ -6,7 +6,6 @@ use Rattle.job.specs.declared.lines.Line.TheVariants.{Malformed}
 use Rattle.job.specs.declared.lines.Trouble.TheVariants.{UnknownWord}
 use Rattle.job.proofs.Picks.{picked, passed}
 use Rattle.job.proofs.Sayings.{or_image, or_ground, said-none, said-some}
-use borrow.Author.Rules.{rules}
 use Rattle.job.proofs.lines.plain_line.Goals as goal
 
 pub returns-then-word_count-eq0 : goal.returns-then-word_count-eq0

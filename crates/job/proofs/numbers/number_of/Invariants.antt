@@ -1,14 +1,7 @@
-use Prim.Native.Nat.{ℕ, ◌≤◌, ◌-◌, ◌+◌}
-use native.Mathlib.Omega.{arith}
-use native.Mathlib.Numerals.{add-one}
-use mathlib.Core.Path.{◌≡◌, refl, sym, ap, ◌∙◌}
-use mathlib.Core.List.{◌∷◌}
-use lib.ListN.{length, drop, get_or, drop_of_length-le}
-use lib.Seq.{drop-cons}
-use borrow.Author.Rules.{rules}
-use Rattle.job.specs.Steps.{with_digit}
-use Rattle.job.specs.declared.numbers.Number.TheVariants.{Is, Not}
-use Rattle.job.proofs.Digits.{digits_from, goes, stops, ends, whole, none}
+use Prim.Native.Nat.{◌≤◌, ◌-◌}
+use mathlib.Core.Path.{◌≡◌}
+use lib.ListN.{length, drop}
+use Rattle.job.proofs.Digits.{digits_from}
 use Rattle.job.proofs.numbers.number_of.Given as goal
 
 -- `number_of` takes digit after digit: what the rest comes to is what the word comes to. Assumes nothing.

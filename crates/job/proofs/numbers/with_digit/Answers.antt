@@ -1,4 +1,3 @@
-use borrow.Author.Rules.{rules}
 use borrow.Author.Tests.{le-leb, lt-leb}
 use Rattle.job.specs.Steps.{with_digit}
 use Rattle.job.proofs.numbers.with_digit.Goals as goal

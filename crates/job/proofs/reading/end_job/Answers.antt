@@ -2,7 +2,6 @@ use mathlib.Core.Path.{◌≡◌, sym, ap, ◌∙◌}
 use Rattle.job.specs.Jobs.{ended, done}
 use Rattle.job.specs.declared.reading.Stage.{Stage}
 use Rattle.job.specs.declared.reading.Stage.TheVariants.{Stopped}
-use borrow.Author.Rules.{rules}
 use Rattle.job.proofs.reading.end_job.Goals.{In-Stopped}
 use Rattle.job.proofs.reading.end_job.Goals as goal
 

@@ -1,6 +1,5 @@
 use mathlib.Core.Path.{refl}
 use Rattle.job.specs.Jobs.{entered}
-use borrow.Author.Rules.{rules}
 use Rattle.job.proofs.reading.entered_job.Goals as goal
 
 pub returns : goal.returns

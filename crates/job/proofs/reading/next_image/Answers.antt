@@ -4,7 +4,6 @@ use Rattle.job.specs.Jobs.{state, stopped, entered, next_image}
 use Rattle.job.specs.declared.reading.Stage.TheVariants.{Closed}
 use Rattle.job.specs.declared.lines.Trouble.TheVariants.{TooManyImages}
 use Rattle.job.proofs.Picks.{picked, passed}
-use borrow.Author.Rules.{rules}
 use Rattle.job.proofs.reading.next_image.Goals as goal
 
 pub returns-then-j-lt256 : goal.returns-then-j-lt256

@@ -6,7 +6,6 @@ use Rattle.paint.specs.declared.background.Background.TheVariants.{Clear}
 use Rattle.job.specs.Jobs.{opened_job}
 use Rattle.job.specs.declared.reading.Entry.{Entry}
 use Rattle.job.specs.declared.reading.Job.{Job}
-use borrow.Author.Rules.{rules}
 use Rattle.job.proofs.reading.opened_job.Goals as goal
 
 -- `opened_job` has the blank entry in each place. Assumes nothing.

@@ -1,6 +1,5 @@
 use Prim.Native.Nat.{◌≤◌}
 use mathlib.Core.Path.{◌≡◌, sym, ap, subst, ◌∙◌}
-use borrow.Author.Rules.{rules}
 use Rattle.job.specs.Jobs.{finished, job_in}
 use Rattle.job.specs.declared.reading.Parsed.{Parsed}
 use Rattle.job.proofs.Limits.{job_fair}

@@ -1,7 +1,6 @@
 use mathlib.Core.Path.{ap, ◌∙◌}
 use Rattle.job.specs.Jobs.{taken}
 use Rattle.job.specs.declared.lines.Line.{Line}
-use borrow.Author.Rules.{rules}
 use Rattle.job.proofs.reading.read_line.Goals as goal
 
 pub returns : goal.returns

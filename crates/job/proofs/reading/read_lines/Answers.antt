@@ -1,12 +1,11 @@
 use Prim.Native.Nat.{ℕ, ◌+◌, ◌-◌, ◌≤◌}
 use native.Mathlib.Omega.{arith}
-use mathlib.Core.Path.{◌≡◌, sym, ap, ◌∙◌}
+use mathlib.Core.Path.{sym, ap, ◌∙◌}
 use mathlib.Core.List.{List}
 use lib.ListN.{length, take, drop}
 use borrow.Author.Rules.{rules}
 use Rattle.job.specs.Bytes.{is_feed}
-use Rattle.job.specs.Jobs.{blank_job, state, after, lines_in}
-use Rattle.job.specs.declared.reading.Stage.TheVariants.{Start}
+use Rattle.job.specs.Jobs.{after}
 use Rattle.job.proofs.Pieces.{end_inside}
 use Rattle.job.proofs.Readings.{left, begins, none_left, next_line, takes, at_end_lem}
 use Rattle.job.proofs.reading.read_lines.Goals.{After-mark_from-end}

@@ -2,7 +2,6 @@ use mathlib.Core.Path.{ap}
 use Rattle.job.specs.Jobs.{refused}
 use Rattle.job.specs.declared.reading.Job.{Job}
 use Rattle.job.specs.declared.reading.Outcome.TheVariants.{Refused}
-use borrow.Author.Rules.{rules}
 use Rattle.job.proofs.reading.refuse.Goals as goal
 
 pub returns : goal.returns

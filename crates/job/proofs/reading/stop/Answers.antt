@@ -1,7 +1,6 @@
 use mathlib.Core.Path.{ap}
 use Rattle.job.specs.Jobs.{state}
 use Rattle.job.specs.declared.reading.Stage.TheVariants.{Stopped}
-use borrow.Author.Rules.{rules}
 use Rattle.job.proofs.reading.stop.Goals as goal
 
 pub returns : goal.returns

@@ -2,7 +2,6 @@ use mathlib.Core.Path.{◌≡◌, sym, ap, ◌∙◌}
 use Rattle.job.specs.Jobs.{taken}
 use Rattle.job.specs.declared.lines.Line.{Line}
 use Rattle.job.specs.declared.lines.Line.TheVariants.{Settings, Ground, Picture, Malformed}
-use borrow.Author.Rules.{rules}
 use Rattle.job.proofs.reading.take_line.Goals.{In-Settings}
 use Rattle.job.proofs.reading.take_line.Goals.{In-Ground}
 use Rattle.job.proofs.reading.take_line.Goals.{In-Picture}

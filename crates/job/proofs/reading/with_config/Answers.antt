@@ -2,7 +2,6 @@ use mathlib.Core.Path.{◌≡◌, sym, ap, ◌∙◌}
 use Rattle.job.specs.Jobs.{state, with_config}
 use Rattle.job.specs.declared.reading.Stage.{Stage}
 use Rattle.job.specs.declared.reading.Stage.TheVariants.{Open, Stopped}
-use borrow.Author.Rules.{rules}
 use Rattle.job.proofs.reading.with_config.Goals.{In-Stopped}
 use Rattle.job.proofs.reading.with_config.Goals as goal
 

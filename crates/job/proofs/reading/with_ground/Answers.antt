@@ -2,7 +2,6 @@ use mathlib.Core.Path.{◌≡◌, sym, ap, ◌∙◌}
 use Rattle.job.specs.Jobs.{state, with_ground}
 use Rattle.job.specs.declared.reading.Stage.{Stage}
 use Rattle.job.specs.declared.reading.Stage.TheVariants.{Closed, Stopped}
-use borrow.Author.Rules.{rules}
 use Rattle.job.proofs.reading.with_ground.Goals.{In-Stopped}
 use Rattle.job.proofs.reading.with_ground.Goals as goal
 

@@ -2,7 +2,6 @@ use mathlib.Core.Path.{◌≡◌, sym, ap, ◌∙◌}
 use Rattle.job.specs.Jobs.{with_image}
 use Rattle.job.specs.declared.reading.Stage.{Stage}
 use Rattle.job.specs.declared.reading.Stage.TheVariants.{Stopped}
-use borrow.Author.Rules.{rules}
 use Rattle.job.proofs.reading.with_image.Goals.{In-Stopped}
 use Rattle.job.proofs.reading.with_image.Goals as goal
 

@@ -1,6 +1,5 @@
 use mathlib.Core.Path.{sym, ap, ◌∙◌}
 use Rattle.job.specs.Words.{given, is_number}
-use borrow.Author.Rules.{rules}
 use Rattle.job.proofs.values.is_number.Goals as goal
 
 pub returns-in-Is : goal.returns-in-Is

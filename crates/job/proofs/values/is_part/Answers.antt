@@ -1,7 +1,6 @@
 use mathlib.Core.Path.{◌≡◌, sym, ap, ◌∙◌}
 use Rattle.job.specs.Words.{small, is_part}
 use Rattle.job.specs.declared.numbers.Number.TheVariants.{Is}
-use borrow.Author.Rules.{rules}
 use Rattle.job.proofs.values.is_part.Goals.{In-Is}
 use Rattle.job.proofs.values.is_part.Goals as goal
 

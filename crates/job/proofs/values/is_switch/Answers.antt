@@ -2,7 +2,6 @@ use mathlib.Core.Bool.{◌||◌}
 use mathlib.Core.Path.{ap₂}
 use Rattle.job.specs.Bytes.{bytes_of}
 use Rattle.job.specs.Words.{is_switch}
-use borrow.Author.Rules.{rules}
 use Rattle.job.proofs.values.is_switch.Goals as goal
 
 pub returns : goal.returns

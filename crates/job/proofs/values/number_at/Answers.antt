@@ -1,6 +1,5 @@
 use mathlib.Core.Path.{ap, ◌∙◌}
 use Rattle.job.specs.Numbers.{number_in}
-use borrow.Author.Rules.{rules}
 use Rattle.job.proofs.values.number_at.Goals as goal
 
 pub returns : goal.returns

@@ -1,7 +1,6 @@
 use mathlib.Core.Path.{◌≡◌, sym, ap, ◌∙◌}
 use Rattle.job.specs.Words.{value_of, to_number}
 use Rattle.job.specs.declared.numbers.Number.TheVariants.{Is}
-use borrow.Author.Rules.{rules}
 use Rattle.job.proofs.values.to_number.Goals.{In-Is}
 use Rattle.job.proofs.values.to_number.Goals as goal
 

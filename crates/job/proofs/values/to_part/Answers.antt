@@ -5,7 +5,6 @@ use borrow.Author.Tests.{le-leb, lt-leb}
 use Rattle.job.specs.Words.{value_of, small, to_number, is_part, to_part}
 use Rattle.job.specs.declared.numbers.Number.{Number}
 use Rattle.job.specs.declared.numbers.Number.TheVariants.{Is}
-use borrow.Author.Rules.{rules}
 use Rattle.job.proofs.values.to_part.Goals.{In-Is}
 use Rattle.job.proofs.values.to_part.Goals as goal
 

@@ -3,7 +3,6 @@ use Rattle.job.specs.Bytes.{bytes_of}
 use Rattle.job.specs.Words.{to_store}
 use Rattle.art.specs.declared.memory_rgba8_texture.Store.TheVariants.{Symbols, Wording}
 use Rattle.job.proofs.Picks.{picked, passed}
-use borrow.Author.Rules.{rules}
 use Rattle.job.proofs.values.to_store.Goals as goal
 
 pub returns-then-is_word : goal.returns-then-is_word

@@ -3,7 +3,6 @@ use Rattle.job.specs.Bytes.{bytes_of}
 use Rattle.job.specs.Words.{word, split, to_part, to_threshold}
 use Rattle.paint.specs.declared.background.Threshold.TheVariants.{Unset, AtMost}
 use Rattle.job.proofs.Picks.{picked, passed}
-use borrow.Author.Rules.{rules}
 use Rattle.job.proofs.values.to_threshold.Goals as goal
 
 pub returns-then-is_word : goal.returns-then-is_word

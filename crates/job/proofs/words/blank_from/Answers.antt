@@ -1,9 +1,6 @@
-use Prim.Native.Nat.{◌-◌}
-use mathlib.Core.Path.{◌≡◌, refl, sym, ◌∙◌}
-use lib.ListN.{length}
-use borrow.Author.Rules.{rules}
+use mathlib.Core.Path.{refl, sym, ◌∙◌}
 use Rattle.job.specs.Bytes.{is_blank}
-use Rattle.job.proofs.Pieces.{end_from, end_here, end_past, end_later}
+use Rattle.job.proofs.Pieces.{end_here, end_past, end_later}
 use Rattle.job.proofs.words.blank_from.Goals as goal
 
 pub loop-i-init : goal.loop-i-init

@@ -1,9 +1,8 @@
 use Prim.Native.Nat.{◌-◌}
-use mathlib.Core.Path.{◌≡◌, refl, sym, ◌∙◌}
+use mathlib.Core.Path.{◌≡◌}
 use lib.ListN.{length}
-use borrow.Author.Rules.{rules}
 use Rattle.job.specs.Bytes.{is_blank}
-use Rattle.job.proofs.Pieces.{end_from, end_here, end_past, end_later}
+use Rattle.job.proofs.Pieces.{end_from}
 use Rattle.job.proofs.words.blank_from.Given as goal
 
 -- `blank_from` goes on where there is no blank. Assumes nothing.

@@ -1,9 +1,6 @@
-use Prim.Native.Nat.{◌≤◌, ◌-◌}
 use native.Mathlib.Omega.{arith}
-use mathlib.Core.Path.{◌≡◌, refl, sym, ◌∙◌}
-use lib.ListN.{length, drop}
+use mathlib.Core.Path.{refl, sym, ◌∙◌}
 use borrow.Author.Rules.{rules}
-use Rattle.job.specs.Bytes.{same}
 use Rattle.job.proofs.Sames.{other_length, same_end, same_not, same_next}
 use Rattle.job.proofs.words.is_same.Goals as goal
 

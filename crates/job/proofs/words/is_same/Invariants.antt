@@ -1,10 +1,7 @@
 use Prim.Native.Nat.{◌≤◌, ◌-◌}
-use native.Mathlib.Omega.{arith}
-use mathlib.Core.Path.{◌≡◌, refl, sym, ◌∙◌}
+use mathlib.Core.Path.{◌≡◌}
 use lib.ListN.{length, drop}
-use borrow.Author.Rules.{rules}
 use Rattle.job.specs.Bytes.{same}
-use Rattle.job.proofs.Sames.{other_length, same_end, same_not, same_next}
 use Rattle.job.proofs.words.is_same.Given as goal
 
 -- `is_same` goes on while the bytes agree. Assumes nothing.

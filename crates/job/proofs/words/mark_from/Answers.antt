@@ -1,11 +1,6 @@
-use Prim.Native.Nat.{ℕ, ◌-◌}
-use mathlib.Core.Path.{◌≡◌, refl, sym, ◌∙◌}
-use mathlib.Core.Bool.{Bool}
-use lib.Dec.{eqb}
-use lib.ListN.{length}
-use borrow.Author.Rules.{rules}
+use mathlib.Core.Path.{refl, sym, ◌∙◌}
 use borrow.Author.Tests.{eq-eqb, ne_eqb}
-use Rattle.job.proofs.Pieces.{end_from, end_here, end_past, end_later}
+use Rattle.job.proofs.Pieces.{end_here, end_past, end_later}
 use Rattle.job.proofs.words.mark_from.Invariants.{is}
 use Rattle.job.proofs.words.mark_from.Goals as goal
 

@@ -1,11 +1,9 @@
 use Prim.Native.Nat.{ℕ, ◌-◌}
-use mathlib.Core.Path.{◌≡◌, refl, sym, ◌∙◌}
+use mathlib.Core.Path.{◌≡◌}
 use mathlib.Core.Bool.{Bool}
 use lib.Dec.{eqb}
 use lib.ListN.{length}
-use borrow.Author.Rules.{rules}
-use borrow.Author.Tests.{eq-eqb, ne_eqb}
-use Rattle.job.proofs.Pieces.{end_from, end_here, end_past, end_later}
+use Rattle.job.proofs.Pieces.{end_from}
 use Rattle.job.proofs.words.mark_from.Given as goal
 
 -- `mark_from` goes on where the mark is not.

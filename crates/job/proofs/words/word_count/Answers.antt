@@ -1,4 +1,4 @@
-use Prim.Native.Nat.{suc, ◌≤◌, ◌-◌, ◌+◌}
+use Prim.Native.Nat.{suc, ◌≤◌, ◌+◌}
 use native.Mathlib.Omega.{arith}
 use mathlib.Core.Path.{◌≡◌, ap}
 use lib.ListN.{length, drop}

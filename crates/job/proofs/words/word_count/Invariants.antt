@@ -1,13 +1,7 @@
-use Prim.Native.Nat.{suc, ◌≤◌, ◌-◌, ◌+◌}
-use native.Mathlib.Omega.{arith}
-use mathlib.Core.Logic.{⊎_elim}
-use mathlib.Core.Path.{◌≡◌, ap}
+use Prim.Native.Nat.{◌≤◌, ◌-◌, ◌+◌}
+use mathlib.Core.Path.{◌≡◌}
 use lib.ListN.{length, drop}
-use borrow.Author.Rules.{rules}
-use Rattle.job.specs.Bytes.{is_blank}
 use Rattle.job.specs.Words.{split}
-use Rattle.job.proofs.Pieces.{end_inside}
-use Rattle.job.proofs.Splits.{word_none, word-here, word_past}
 use Rattle.job.proofs.words.word_count.Given as goal
 
 -- `word_count` counts the words that it has passed. Assumes nothing.

@@ -1,6 +1,6 @@
 use Prim.Native.Nat.{ℕ, ◌≤◌, ◌-◌, ◌+◌}
 use native.Mathlib.Omega.{arith}
-use mathlib.Core.Path.{◌≡◌, refl, sym, ap, ◌∙◌}
+use mathlib.Core.Path.{refl, sym, ap, ◌∙◌}
 use lib.ListN.{length, take, drop}
 use borrow.Author.Rules.{rules}
 use Rattle.job.specs.Bytes.{is_blank}

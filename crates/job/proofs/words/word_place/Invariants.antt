@@ -1,13 +1,7 @@
-use Prim.Native.Nat.{ℕ, ◌≤◌, ◌-◌, ◌+◌}
-use native.Mathlib.Omega.{arith}
-use mathlib.Core.Logic.{⊎_elim}
-use mathlib.Core.Path.{◌≡◌, refl, sym, ap, ◌∙◌}
-use lib.ListN.{length, take, drop}
-use borrow.Author.Rules.{rules}
-use Rattle.job.specs.Bytes.{is_blank}
+use Prim.Native.Nat.{◌≤◌, ◌-◌, ◌+◌}
+use mathlib.Core.Path.{◌≡◌}
+use lib.ListN.{length, drop}
 use Rattle.job.specs.Words.{split, word}
-use Rattle.job.proofs.Pieces.{end_inside}
-use Rattle.job.proofs.Splits.{word_none, word-here, word_past, word_first, word_next, word-none_there}
 use Rattle.job.proofs.words.word_place.Given as goal
 
 -- `word_place` passes n words. Assumes nothing.

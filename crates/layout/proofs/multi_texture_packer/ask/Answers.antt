@@ -8,7 +8,6 @@ use Rattle.records.specs.Layouts.{standing}
 use Rattle.faithful.specs.declared.trust.Trust.TheVariants.{Unformed, Unfaithful, StandsOn}
 use Rattle.faithful.proofs.Trusting.{Formed2, unformed, not-faithful, stands_on}
 use Rattle.layout.proofs.Answering.{ask-unformed, ask_unfaithful, ask-rest}
-use borrow.Author.Rules.{rules}
 use Rattle.layout.proofs.multi_texture_packer.ask.Goals.{In-StandsOn}
 use Rattle.layout.proofs.multi_texture_packer.ask.Goals as goal
 

@@ -10,7 +10,6 @@ use Rattle.rules.specs.Placing.{spot_on, cells_on}
 use Rattle.faithful.specs.Replay.{Skies}
 use Rattle.offers.proofs.Keeping.{sized}
 use Rattle.layout.proofs.Answering.{ask-found, ask-size, ask-page, ask_yes, ask_no}
-use borrow.Author.Rules.{rules}
 use Rattle.faithful.proofs.Replays.{stands_as}
 use Rattle.layout.proofs.multi_texture_packer.ask_on.Goals.{After-can_pack_on}
 use Rattle.layout.proofs.multi_texture_packer.ask_on.Goals as goal

@@ -7,7 +7,6 @@ use mathlib.Core.Path.{◌≡◌}
 use Rattle.faithful.specs.declared.trust.Trust.TheVariants.{Unformed, Unfaithful, StandsOn}
 use Rattle.faithful.proofs.Trusting.{Formed2, unformed, not-faithful, stands_on}
 use Rattle.layout.proofs.Answering.{offer-unformed, offer_unfaithful, offer-rest}
-use borrow.Author.Rules.{rules}
 use Rattle.layout.proofs.multi_texture_packer.offer.Goals.{In-StandsOn}
 use Rattle.layout.proofs.multi_texture_packer.offer.Goals as goal
 

@@ -8,7 +8,6 @@ use Rattle.records.proofs.Checks.{formed}
 use Rattle.faithful.specs.declared.trust.Trust.TheVariants.{Unformed, Unfaithful, StandsOn}
 use Rattle.faithful.proofs.Trusting.{Formed2, unformed, not-faithful, stands_on}
 use Rattle.layout.proofs.Answering.{withdraw_unformed, withdraw_unfaithful, withdraw_rest}
-use borrow.Author.Rules.{rules}
 use Rattle.layout.proofs.multi_texture_packer.withdraw.Goals.{In-StandsOn}
 use Rattle.layout.proofs.multi_texture_packer.withdraw.Goals as goal
 

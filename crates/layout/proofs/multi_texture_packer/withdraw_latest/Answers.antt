@@ -1,6 +1,5 @@
 use Rattle.records.specs.Settings.{blank_record}
 use Rattle.layout.proofs.Answering.{none_gone, gone}
-use borrow.Author.Rules.{rules}
 use Rattle.layout.proofs.multi_texture_packer.withdraw_latest.Goals as goal
 
 pub returns-then-l-eq0 : goal.returns-then-l-eq0

@@ -1,7 +1,6 @@
 use Prim.Native.Nat.{◌-◌}
 use lib.ListN.{set}
 use Rattle.rules.specs.Operations.{without_latest}
-use borrow.Author.Rules.{rules}
 use Rattle.layout.proofs.multi_texture_packer.without_latest.Goals as goal
 
 pub returns : goal.returns

@@ -1,5 +1,4 @@
 use mathlib.Core.Path.{refl}
-use borrow.Author.Rules.{rules}
 use Rattle.lookup.proofs.image_row.part_of.Goals as goal
 
 pub slice_bounds-result-end : goal.slice_bounds-result-end

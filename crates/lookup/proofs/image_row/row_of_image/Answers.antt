@@ -3,8 +3,7 @@ use native.Mathlib.Omega.{arith}
 use mathlib.Core.Path.{◌≡◌, refl, sym, ◌∙◌, subst}
 use mathlib.Core.Bool.{false}
 use mathlib.Core.Option.{none}
-use lib.ListN.{length, length-map, get_or}
-use borrow.Author.Rules.{rules}
+use lib.ListN.{length, get_or}
 use Rattle.art.specs.Stores.{lent, runs_past}
 use Rattle.records.specs.Settings.{blank_record}
 use Rattle.records.specs.Records.{image_of}

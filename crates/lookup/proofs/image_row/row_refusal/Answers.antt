@@ -2,9 +2,7 @@ use Prim.Native.Nat.{◌≤◌}
 use native.Mathlib.Omega.{arith}
 use mathlib.Core.Bool.{true}
 use mathlib.Core.Path.{◌≡◌, sym, ap, ◌∙◌}
-use lib.ListN.{length, length-map, get_or}
-use borrow.Author.Tests.{not-true, not-false}
-use borrow.Author.Rules.{rules}
+use lib.ListN.{length, get_or}
 use Rattle.geometry.specs.Words.{any}
 use Rattle.art.specs.Stores.{lent, runs_past}
 use Rattle.records.specs.Settings.{blank_record}

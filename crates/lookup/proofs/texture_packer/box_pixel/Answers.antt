@@ -1,4 +1,3 @@
-use borrow.Author.Rules.{rules}
 use Rattle.lookup.proofs.Zones.{upright_asks, turned_asks, upright_is, turned_is}
 use Rattle.lookup.proofs.texture_packer.box_pixel.Goals as goal
 

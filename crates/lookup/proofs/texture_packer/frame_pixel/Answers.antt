@@ -1,5 +1,4 @@
 use mathlib.Core.Path.{sym, ◌∙◌}
-use borrow.Author.Rules.{rules}
 use Rattle.records.proofs.Checks.{Good, good, Framed, framed}
 use Rattle.lookup.proofs.Zones.{local_in, frame_outlined, frame_read}
 use Rattle.lookup.proofs.texture_packer.frame_pixel.Goals.{Start}

@@ -1,4 +1,3 @@
-use borrow.Author.Rules.{rules}
 use Rattle.lookup.proofs.Zones.{local-within, local_past}
 use Rattle.lookup.proofs.texture_packer.local_of.Goals as goal
 

@@ -1,7 +1,6 @@
 use mathlib.Core.Path.{ap, ◌∙◌}
 use mathlib.Core.Bool.{Bool, ◌&&◌}
 use lib.Dec.{eqb}
-use borrow.Author.Rules.{rules}
 use Rattle.art.specs.Stores.{lent, runs_past}
 use Rattle.lookup.proofs.texture_packer.on_page_past.Goals as goal
 

@@ -1,14 +1,12 @@
-use Prim.Native.Nat.{◌-◌, ◌≤◌, ◌<◌, ℕ}
+use Prim.Native.Nat.{◌<◌, ℕ}
 use native.Mathlib.Omega.{arith}
 use mathlib.Core.Path.{◌≡◌, refl, sym, ap, ◌∙◌}
-use lib.ListN.{length, length-map, drop, get_or}
-use borrow.Author.Rules.{rules}
+use lib.ListN.{length, get_or}
 use Rattle.art.specs.Stores.{lent}
 use Rattle.records.specs.Settings.{blank_record}
 use Rattle.records.specs.Layouts.{standing}
 use Rattle.records.proofs.Standing.{standing-long, standing-at}
 use Rattle.records.proofs.Checks.{Formed, formed}
-use Rattle.lookup.specs.Looking.{page_past}
 use Rattle.lookup.proofs.Looking.{past_here, past_stop, past_more, past_done}
 use Rattle.lookup.proofs.texture_packer.page_past.Goals.{Start}
 use Rattle.lookup.proofs.texture_packer.page_past.Goals as goal

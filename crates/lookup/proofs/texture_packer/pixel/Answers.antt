@@ -2,8 +2,6 @@ use Prim.Native.Nat.{◌<◌}
 use native.Mathlib.Omega.{arith}
 use mathlib.Core.Bool.{true}
 use mathlib.Core.Path.{◌≡◌, sym, ◌∙◌}
-use borrow.Author.Tests.{not-true, not-false}
-use borrow.Author.Rules.{rules}
 use Rattle.records.specs.Layouts.{standing, well_formed, page_count}
 use Rattle.records.proofs.Answers.{says}
 use Rattle.lookup.specs.Looking.{looked_numbers}

@@ -1,11 +1,10 @@
-use Prim.Native.Nat.{◌-◌, ◌≤◌, ◌<◌, ℕ}
+use Prim.Native.Nat.{◌<◌, ℕ}
 use native.Mathlib.Omega.{arith}
 use mathlib.Core.Path.{◌≡◌, refl, sym, ap, ◌∙◌, subst}
 use mathlib.Core.Bool.{true}
 use mathlib.Core.List.{Memᴰ}
 use mathlib.Core.Option.{Option, none}
-use lib.ListN.{length, length-map, drop, get_or}
-use Rattle.art.specs.Stores.{lent}
+use lib.ListN.{length, get_or}
 use Rattle.art.specs.declared.memory_rgba8_texture.Pixel.{Pixel}
 use Rattle.records.specs.Settings.{blank_record}
 use Rattle.records.specs.Records.{record_well_formed}
@@ -14,7 +13,7 @@ use Rattle.records.specs.declared.frame.Record.{Record}
 use Rattle.records.proofs.Rows.{at_in}
 use Rattle.records.proofs.Standing.{standing-long, standing-at, standing-good}
 use Rattle.records.proofs.Checks.{Formed, formed, good-holds}
-use Rattle.lookup.specs.Zones.{pixel_among, pixel_at}
+use Rattle.lookup.specs.Zones.{pixel_at}
 use Rattle.lookup.specs.Looking.{look_answer}
 use Rattle.lookup.specs.declared.texture_packer.Looked.{Looked}
 use Rattle.lookup.specs.declared.texture_packer.Looked.TheVariants.{Shows}

@@ -1,7 +1,6 @@
 use mathlib.Core.Path.{ap, ◌∙◌}
 use mathlib.Core.Bool.{Bool, ◌&&◌}
 use lib.Dec.{eqb}
-use borrow.Author.Rules.{rules}
 use Rattle.geometry.specs.Rects.{holds_point}
 use Rattle.geometry.specs.declared.rect.Rect.{Rect}
 use Rattle.lookup.specs.Zones.{reaches}

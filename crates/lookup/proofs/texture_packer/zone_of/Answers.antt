@@ -1,5 +1,4 @@
 use native.Mathlib.Omega.{arith}
-use borrow.Author.Rules.{rules}
 use Rattle.records.proofs.Checks.{Bounded, bounded, Framed, framed, good}
 use Rattle.lookup.proofs.Zones.{zone-is}
 use Rattle.lookup.proofs.texture_packer.zone_of.Goals.{Start}

@@ -8,7 +8,6 @@ use Rattle.paint.specs.Backgrounds.{solid, composed}
 use Rattle.paint.specs.declared.background.Background.TheVariants.{Colour}
 use Rattle.paint.specs.declared.background.Threshold.{Threshold}
 use Rattle.paint.specs.declared.background.Threshold.TheVariants.{AtMost}
-use borrow.Author.Rules.{rules}
 use Rattle.paint.proofs.background.over_colour.Goals as goal
 
 -- `over_colour` asks the threshold before the switch. Assumes nothing.

@@ -2,7 +2,6 @@ use mathlib.Core.Path.{sym, ap, ◌∙◌}
 use mathlib.Core.Option.{some}
 use Rattle.paint.specs.Backgrounds.{composed}
 use Rattle.paint.specs.declared.background.Background.{Background}
-use borrow.Author.Rules.{rules}
 use Rattle.paint.proofs.background.with_pixel.Goals as goal
 
 pub returns-in-Clear : goal.returns-in-Clear

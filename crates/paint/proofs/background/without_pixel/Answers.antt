@@ -1,5 +1,4 @@
 use Rattle.paint.specs.Backgrounds.{clear_pixel, composed}
-use borrow.Author.Rules.{rules}
 use Rattle.paint.proofs.background.without_pixel.Goals as goal
 
 pub returns-in-Clear : goal.returns-in-Clear

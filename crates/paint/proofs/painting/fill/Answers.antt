@@ -1,7 +1,5 @@
-use Prim.Native.Nat.{◌-◌, ◌≤◌}
 use native.Mathlib.Omega.{arith}
 use mathlib.Core.Path.{◌≡◌, refl}
-use Rattle.paint.specs.Painting.{SpanPainted}
 use Rattle.paint.proofs.Pixels.{span_none, span_more, span_to}
 use Rattle.paint.proofs.painting.fill.Goals as goal
 

@@ -1,15 +1,12 @@
-use Prim.Native.Nat.{ℕ, ◌+◌, ◌-◌, ◌≤◌, ◌<◌}
+use Prim.Native.Nat.{ℕ, ◌+◌, ◌-◌, ◌<◌}
 use native.Mathlib.Omega.{arith}
 use mathlib.Core.Path.{◌≡◌, refl, sym, ap, ◌∙◌}
-use lib.ListN.{length, length-map, drop}
-use borrow.Author.Rules.{rules}
+use lib.ListN.{length, drop}
 use Rattle.geometry.proofs.Rects.{product_fits}
-use Rattle.art.specs.Stores.{lent}
 use Rattle.records.specs.Settings.{blank_record}
 use Rattle.records.specs.Layouts.{standing}
 use Rattle.records.proofs.Checks.{Formed, formed, good-holds}
 use Rattle.records.proofs.Standing.{standing-good}
-use Rattle.paint.specs.Painting.{composed_among, Shows}
 use Rattle.paint.proofs.Pictures.{shows_is}
 use Rattle.paint.proofs.Stacks.{shows_filled, standing-from, standing_past, stored, shows_standing, shows_records}
 use Rattle.paint.proofs.painting.paint_band.Goals.{Start}

@@ -3,12 +3,8 @@ use native.Mathlib.Omega.{arith}
 use native.Mathlib.Decide.{dec_lt}
 use mathlib.Core.Logic.{◌⊎◌, inl, inr}
 use mathlib.Core.Path.{◌≡◌, sym, ◌∙◌, subst}
-use borrow.Author.Rules.{rules}
 use Rattle.geometry.proofs.Rects.{product_fits}
-use Rattle.art.specs.Stores.{lent}
-use Rattle.lookup.specs.Zones.{zone}
-use Rattle.paint.specs.Painting.{composed_frame}
-use Rattle.paint.proofs.Frames.{row_fits, min-is, ZoneFew, zone-few, RowsPainted, rows_none, rows_all, rows_more, zone_to}
+use Rattle.paint.proofs.Frames.{row_fits, min-is, ZoneFew, zone-few, rows_none, rows_all, rows_more, zone_to}
 use Rattle.paint.proofs.painting.paint_frame.Goals.{After-zone_of-z}
 use Rattle.paint.proofs.painting.paint_frame.Goals as goal
 

@@ -1,14 +1,7 @@
-use Prim.Native.Nat.{ℕ, ◌+◌, ◌-◌, ◌≤◌, ◌<◌, min, max}
-use native.Mathlib.Omega.{arith}
-use native.Mathlib.Decide.{dec_lt}
-use mathlib.Core.Logic.{◌⊎◌, inl, inr}
-use mathlib.Core.Path.{◌≡◌, sym, ◌∙◌, subst}
-use borrow.Author.Rules.{rules}
-use Rattle.geometry.proofs.Rects.{product_fits}
+use Prim.Native.Nat.{◌-◌, ◌≤◌}
 use Rattle.art.specs.Stores.{lent}
-use Rattle.lookup.specs.Zones.{zone}
 use Rattle.paint.specs.Painting.{composed_frame}
-use Rattle.paint.proofs.Frames.{row_fits, min-is, ZoneFew, zone-few, RowsPainted, rows_none, rows_all, rows_more, zone_to}
+use Rattle.paint.proofs.Frames.{RowsPainted}
 use Rattle.paint.proofs.painting.paint_frame.Given as goal
 
 -- `paint_frame` has painted the rows that it passed. Assumes nothing.

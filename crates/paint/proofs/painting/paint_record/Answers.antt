@@ -1,6 +1,5 @@
 use borrow.Author.Tests.{eq-eqb, ne_eqb}
 use Rattle.paint.proofs.Stacks.{shows_past, shows_more}
-use borrow.Author.Rules.{rules}
 use Rattle.paint.proofs.painting.paint_record.Goals as goal
 
 pub paint_frame-requires : goal.paint_frame-requires

@@ -1,16 +1,8 @@
-use Prim.Native.Nat.{ℕ, ◌+◌, ◌*◌, ◌-◌, ◌≤◌}
-use native.Mathlib.Omega.{arith}
-use mathlib.Core.Logic.{◌⊎◌, inl, inr}
-use mathlib.Core.Path.{◌≡◌, refl, ap, ◌∙◌}
-use mathlib.Core.List.{List}
-use mathlib.Core.Option.{some}
-use lib.ListN.{length}
-use borrow.Author.Rules.{rules}
+use Prim.Native.Nat.{◌+◌, ◌-◌, ◌≤◌}
+use mathlib.Core.Logic.{◌⊎◌}
+use mathlib.Core.Path.{◌≡◌}
 use Rattle.art.specs.Stores.{lent}
-use Rattle.art.specs.declared.memory_rgba8_texture.Pixel.{Pixel}
-use Rattle.paint.specs.Backgrounds.{composed}
 use Rattle.paint.specs.Painting.{composed_frame, SpanPainted}
-use Rattle.paint.proofs.Pixels.{span_none, span_more, span_to, span_empty}
 use Rattle.paint.proofs.painting.paint_span.Given as goal
 
 -- `paint_span` has painted the columns that it passed. Assumes nothing.

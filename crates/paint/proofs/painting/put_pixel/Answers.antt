@@ -1,7 +1,6 @@
 use mathlib.Core.Path.{refl}
 use native.Mathlib.Omega.{arith}
 use lib.ListN.{length-set}
-use borrow.Author.Rules.{rules}
 use Rattle.paint.specs.Painting.{with_pixel}
 use Rattle.paint.proofs.painting.put_pixel.Goals as goal
 

@@ -1,6 +1,5 @@
 use mathlib.Core.Bool.{◌&&◌}
 use mathlib.Core.Path.{ap₂}
-use borrow.Author.Rules.{rules}
 use Rattle.records.specs.Records.{box_inside}
 use Rattle.records.proofs.frame.box_inside.Goals as goal
 

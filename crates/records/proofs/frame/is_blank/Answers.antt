@@ -1,4 +1,3 @@
-use borrow.Author.Rules.{rules}
 use Rattle.records.proofs.Codes.{blank_row}
 use Rattle.records.proofs.frame.is_blank.Goals as goal
 

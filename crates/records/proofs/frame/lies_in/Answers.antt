@@ -1,7 +1,7 @@
 use Rattle.records.proofs.Codes.{lies_out, lies-row}
 use Rattle.records.proofs.frame.lies_in.Goals as goal
 
--- `lies_in_lem` compares by subtraction what the definition adds. Assumes nothing.
+-- `lies_in` compares by subtraction what the definition adds. Assumes nothing.
 pub returns-then-whole-a : goal.returns-then-whole-a
 returns-then-whole-a c = lies_out _ _ _ c.if-whole-a.true
 

@@ -1,5 +1,4 @@
 use native.Mathlib.Omega.{arith}
-use borrow.Author.Rules.{rules}
 use Rattle.records.proofs.Codes.{record_row}
 use Rattle.records.proofs.Checks.{bounded}
 use Rattle.records.proofs.frame.record_ok.Goals as goal

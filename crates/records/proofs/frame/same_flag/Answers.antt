@@ -1,4 +1,3 @@
-use borrow.Author.Rules.{rules}
 use Rattle.records.proofs.Codes.{flag_yes}
 use Rattle.records.proofs.frame.same_flag.Goals as goal
 

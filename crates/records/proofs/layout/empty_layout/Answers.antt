@@ -1,6 +1,5 @@
 use mathlib.Core.Path.{ap}
 use lib.ListN.{replicate}
-use borrow.Author.Rules.{rules}
 use Rattle.records.specs.declared.layout.Layout.{Layout}
 use Rattle.records.specs.declared.frame.Record.{Record}
 use Rattle.records.specs.declared.texture_packer_config.Config.{Config}

@@ -1,10 +1,9 @@
-use Prim.Native.Nat.{◌-◌, ◌≤◌}
 use native.Mathlib.Omega.{arith}
 use mathlib.Core.List.{List}
 use mathlib.Core.Path.{◌≡◌, sym, ap, ◌∙◌}
-use lib.ListN.{length, length-map, get_or, take}
+use lib.ListN.{length, get_or}
 use Rattle.records.specs.declared.frame.Record.{Record}
-use Rattle.records.specs.Layouts.{standing, on_page, ends_of}
+use Rattle.records.specs.Layouts.{on_page, ends_of}
 use Rattle.records.specs.Settings.{blank_record}
 use Rattle.records.proofs.Pages.{ends-none_w, ends-none_h, ends_more_w, ends_more_h, ends-few}
 use Rattle.records.proofs.Standing.{standing_next, standing-whole, standing-good}

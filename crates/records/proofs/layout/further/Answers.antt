@@ -1,6 +1,4 @@
 use native.Mathlib.Omega.{arith}
-use borrow.Author.Tests.{not-true, not-false}
-use borrow.Author.Rules.{rules}
 use Rattle.records.proofs.Pages.{grows-not, grows_to, grows_past}
 use Rattle.records.proofs.layout.further.Goals as goal
 

@@ -1,7 +1,6 @@
 use mathlib.Core.Path.{sym, ◌∙◌, ap}
 use mathlib.Core.List.{List}
 use Prim.Native.Nat.{ℕ}
-use borrow.Author.Rules.{rules}
 use Rattle.records.specs.declared.refusal.Refusal.TheVariants.{OutOfBounds}
 use Rattle.records.specs.declared.layout.Opening.{Opening}
 use Rattle.records.specs.declared.layout.Opened.TheVariants.{Done, Refused}

@@ -1,9 +1,8 @@
-use Prim.Native.Nat.{◌-◌, ◌≤◌}
 use native.Mathlib.Omega.{arith}
 use mathlib.Core.Path.{◌≡◌, sym, ap, ◌∙◌}
-use lib.ListN.{length, length-map, take}
+use lib.ListN.{length}
 use Rattle.records.specs.Settings.{blank_record}
-use Rattle.records.specs.Layouts.{standing, page_count}
+use Rattle.records.specs.Layouts.{page_count}
 use Rattle.records.proofs.Pages.{count_none, count_more}
 use Rattle.records.proofs.Standing.{standing_next, standing-whole, standing-good}
 use Rattle.records.proofs.Checks.{Formed, formed}

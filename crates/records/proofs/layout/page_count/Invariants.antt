@@ -1,12 +1,7 @@
 use Prim.Native.Nat.{◌-◌, ◌≤◌}
-use native.Mathlib.Omega.{arith}
-use mathlib.Core.Path.{◌≡◌, sym, ap, ◌∙◌}
-use lib.ListN.{length, length-map, take}
-use Rattle.records.specs.Settings.{blank_record}
+use mathlib.Core.Path.{◌≡◌}
+use lib.ListN.{take}
 use Rattle.records.specs.Layouts.{standing, page_count}
-use Rattle.records.proofs.Pages.{count_none, count_more}
-use Rattle.records.proofs.Standing.{standing_next, standing-whole, standing-good}
-use Rattle.records.proofs.Checks.{Formed, formed}
 use Rattle.records.proofs.layout.page_count.Given as goal
 
 -- `page_count` has counted the pages of the records that it passed. Assumes nothing.

@@ -1,8 +1,6 @@
 use native.Mathlib.Omega.{arith}
 use mathlib.Core.Bool.{true}
 use mathlib.Core.Path.{◌≡◌, sym, ap, ◌∙◌}
-use borrow.Author.Tests.{not-true, not-false}
-use borrow.Author.Rules.{rules}
 use Rattle.records.specs.declared.layout.Sized.TheVariants.{Is}
 use Rattle.records.specs.Layouts.{well_formed}
 use Rattle.records.specs.Operations.{sized_numbers}

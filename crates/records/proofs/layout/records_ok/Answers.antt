@@ -1,9 +1,7 @@
-use Prim.Native.Nat.{◌-◌, ◌≤◌, ◌<◌, ℕ}
+use Prim.Native.Nat.{◌≤◌, ◌<◌, ℕ}
 use native.Mathlib.Omega.{arith}
 use mathlib.Core.Path.{◌≡◌, refl, sym, ◌∙◌, ap}
-use lib.ListN.{length, length-map, drop, get_or}
-use borrow.Author.Tests.{not-true, not-false}
-use Rattle.geometry.specs.Words.{all}
+use lib.ListN.{length, get_or}
 use Rattle.records.specs.Layouts.{standing}
 use Rattle.records.specs.Settings.{blank_record}
 use Rattle.records.specs.Records.{record_well_formed}

@@ -1,14 +1,9 @@
-use Prim.Native.Nat.{◌-◌, ◌≤◌, ◌<◌, ℕ}
-use native.Mathlib.Omega.{arith}
-use mathlib.Core.Path.{◌≡◌, refl, sym, ◌∙◌, ap}
-use lib.ListN.{length, length-map, drop, get_or}
-use borrow.Author.Tests.{not-true, not-false}
+use Prim.Native.Nat.{◌-◌, ◌≤◌}
+use mathlib.Core.Path.{◌≡◌}
+use lib.ListN.{drop}
 use Rattle.geometry.specs.Words.{all}
 use Rattle.records.specs.Layouts.{standing}
-use Rattle.records.specs.Settings.{blank_record}
 use Rattle.records.specs.Records.{record_well_formed}
-use Rattle.records.proofs.Standing.{standing-long, standing-at, rest_stop, rest_more, rest-done}
-use Rattle.records.proofs.Checks.{bounded}
 use Rattle.records.proofs.layout.records_ok.Given as goal
 
 -- `records_ok` passes the standing records; what is left of them decides. Assumes nothing.

@@ -1,5 +1,4 @@
 use mathlib.Core.Path.{sym, ◌∙◌}
-use borrow.Author.Rules.{rules}
 use Rattle.records.proofs.Pages.{side_forced, side_ends}
 use Rattle.records.proofs.layout.size_of_page.Goals as goal
 

@@ -1,11 +1,7 @@
-use Prim.Native.Nat.{◌-◌, ◌≤◌}
+use Prim.Native.Nat.{◌≤◌}
 use native.Mathlib.Omega.{arith}
 use mathlib.Core.Path.{◌≡◌, sym, ◌∙◌}
-use lib.ListN.{length, length-map, drop}
-use borrow.Author.Tests.{not-true, not-false}
-use borrow.Author.Rules.{rules}
-use Rattle.geometry.specs.Words.{all}
-use Rattle.records.specs.Layouts.{unused}
+use lib.ListN.{length}
 use Rattle.records.specs.Records.{is_blank}
 use Rattle.records.specs.Settings.{blank_record}
 use Rattle.records.proofs.Standing.{unused-from, rest_stop, rest_more, rest-done}

@@ -1,15 +1,9 @@
 use Prim.Native.Nat.{◌-◌, ◌≤◌}
-use native.Mathlib.Omega.{arith}
-use mathlib.Core.Path.{◌≡◌, sym, ◌∙◌}
-use lib.ListN.{length, length-map, drop}
-use borrow.Author.Tests.{not-true, not-false}
-use borrow.Author.Rules.{rules}
+use mathlib.Core.Path.{◌≡◌}
+use lib.ListN.{drop}
 use Rattle.geometry.specs.Words.{all}
 use Rattle.records.specs.Layouts.{unused}
 use Rattle.records.specs.Records.{is_blank}
-use Rattle.records.specs.Settings.{blank_record}
-use Rattle.records.proofs.Standing.{unused-from, rest_stop, rest_more, rest-done}
-use Rattle.records.proofs.Checks.{bounded}
 use Rattle.records.proofs.layout.unused_blank.Given as goal
 
 -- `unused_blank` passes the places from the count on; what is left of them decides. Assumes nothing.

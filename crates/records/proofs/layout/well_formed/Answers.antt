@@ -1,6 +1,4 @@
 use mathlib.Core.Path.{sym, ◌∙◌}
-use borrow.Author.Tests.{not-true, not-false}
-use borrow.Author.Rules.{rules}
 use Rattle.records.proofs.Codes.{formed_config, formed_count, formed_unused, formed_all}
 use Rattle.records.proofs.layout.well_formed.Goals as goal
 

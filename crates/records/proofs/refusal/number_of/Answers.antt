@@ -1,4 +1,3 @@
-use borrow.Author.Rules.{rules}
 use Rattle.records.proofs.refusal.number_of.Goals as goal
 
 pub returns-in-OutOfBounds : goal.returns-in-OutOfBounds

@@ -1,4 +1,3 @@
-use borrow.Author.Rules.{rules}
 use Rattle.records.proofs.Codes.{config-row}
 use Rattle.records.proofs.texture_packer_config.in_bounds.Goals as goal
 

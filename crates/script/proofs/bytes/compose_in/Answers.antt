@@ -1,6 +1,5 @@
 use Prim.Native.Nat.{◌+◌, ◌-◌}
 use mathlib.Core.Path.{sym, ap, ◌∙◌}
-use borrow.Author.Rules.{rules}
 use borrow.Rule.Slice.PartMut.{mid_of, mid_len}
 use Rattle.art.specs.Stores.{lent}
 use Rattle.compose.specs.Composing.{composed_answer, composed_buffer}

@@ -4,7 +4,6 @@ use mathlib.Core.List.{List, ◌∷◌, []}
 use mathlib.Core.Path.{◌≡◌, sym, ap, ◌∙◌}
 use lib.ListN.{length, take}
 use lib.Seq.{length-take-le}
-use borrow.Author.Rules.{rules}
 use Rattle.art.specs.Stores.{lent}
 use Rattle.lookup.specs.Reading.{read, read_numbers, part_read, part_bytes}
 use Rattle.lookup.proofs.Bytes.{part_reads}

@@ -2,7 +2,6 @@ use Prim.Native.Nat.{◌+◌, ◌-◌}
 use native.Mathlib.Omega.{arith}
 use mathlib.Core.Path.{◌≡◌, sym, ◌∙◌, subst}
 use lib.ListN.{drop, length, take}
-use borrow.Author.Rules.{rules}
 use borrow.Author.Tests.{lt-ltb, le-ltb}
 use Rattle.art.specs.Stores.{lent}
 use Rattle.compose.specs.Checking.{checked_rows, checked_numbers}

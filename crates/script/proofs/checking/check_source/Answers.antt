@@ -3,7 +3,6 @@ use native.Mathlib.Omega.{arith}
 use mathlib.Core.List.{[], ◌∷◌}
 use mathlib.Core.Path.{sym, ap, ◌∙◌}
 use lib.ListN.{get_or-eq_default, get_or}
-use borrow.Author.Rules.{rules}
 use Rattle.art.specs.Stores.{lent}
 use Rattle.wire.specs.Bytes.{word_at}
 use Rattle.script.specs.Stepping.{check_source}

@@ -1,5 +1,4 @@
 use mathlib.Core.Path.{ap, ◌∙◌}
-use borrow.Author.Rules.{rules}
 use Rattle.records.specs.Settings.{empty_layout}
 use Rattle.script.proofs.running.blank.Goals as goal
 

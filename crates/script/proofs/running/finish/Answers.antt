@@ -2,7 +2,6 @@ use Prim.Native.Nat.{◌%◌, ◌+◌}
 use native.Mathlib.Omega.{arith}
 use mathlib.Core.List.{[], ◌∷◌}
 use mathlib.Core.Path.{refl}
-use borrow.Author.Rules.{rules}
 use Rattle.wire.proofs.Putting.{first_word, one_word_more}
 use Rattle.script.specs.Stepping.{end_bytes}
 use Rattle.script.proofs.running.finish.Goals as goal

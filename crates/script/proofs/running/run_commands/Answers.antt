@@ -1,9 +1,8 @@
-use Prim.Native.Nat.{◌-◌}
 use native.Mathlib.Omega.{arith}
 use mathlib.Core.Path.{ap, ◌∙◌}
 use lib.ListN.{length}
 use Rattle.art.specs.Stores.{lent}
-use Rattle.script.proofs.Going.{Going, going_start, going_long, ended, goes, unchanged, stops}
+use Rattle.script.proofs.Going.{going_start, going_long, ended, goes, unchanged, stops}
 use Rattle.script.proofs.running.run_commands.Goals as goal
 
 pub blank-l-requires : goal.blank-l-requires

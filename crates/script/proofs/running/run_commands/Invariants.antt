@@ -1,9 +1,7 @@
 use Prim.Native.Nat.{◌-◌}
-use native.Mathlib.Omega.{arith}
-use mathlib.Core.Path.{ap, ◌∙◌}
 use lib.ListN.{length}
 use Rattle.art.specs.Stores.{lent}
-use Rattle.script.proofs.Going.{Going, going_start, going_long, ended, goes, unchanged, stops}
+use Rattle.script.proofs.Going.{Going}
 use Rattle.script.proofs.running.run_commands.Given as goal
 
 -- `run_commands` says what is left to say, command by command. Assumes nothing.

@@ -2,7 +2,6 @@ use Prim.Native.Nat.{◌+◌, ℕ}
 use native.Mathlib.Omega.{arith}
 use mathlib.Core.Path.{◌≡◌, sym, ap, ◌∙◌}
 use lib.ListN.{length, take}
-use borrow.Author.Rules.{rules}
 use Rattle.art.specs.Stores.{lent}
 use Rattle.wire.specs.Bytes.{word_at}
 use Rattle.commands.specs.Reading.{word}

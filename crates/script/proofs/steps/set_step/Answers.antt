@@ -1,8 +1,6 @@
 use Prim.Native.Nat.{◌+◌}
 use native.Mathlib.Omega.{arith}
 use mathlib.Core.Path.{◌≡◌, sym, ap, ◌∙◌}
-use borrow.Author.Rules.{rules}
-use borrow.Author.Tests.{not-true, not-false}
 use Rattle.wire.specs.Fields.{is_field, layout_with}
 use Rattle.commands.specs.Taking.{words_of}
 use Rattle.script.specs.Stepping.{next_at, set_step}

@@ -1,7 +1,6 @@
 use Prim.Native.Nat.{◌+◌}
 use native.Mathlib.Omega.{arith}
 use mathlib.Core.List.{[], ◌∷◌}
-use borrow.Author.Rules.{rules}
 use Rattle.wire.proofs.Putting.{first_word, one_word_more}
 use Rattle.script.proofs.steps.write_number.Goals as goal
 

@@ -1,5 +1,4 @@
 use native.Mathlib.Omega.{arith}
-use borrow.Author.Rules.{rules}
 use Rattle.skyline.proofs.skyline.keep.Goals as goal
 
 pub push-requires : goal.push-requires

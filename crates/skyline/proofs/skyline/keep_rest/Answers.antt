@@ -1,7 +1,4 @@
-use Prim.Native.Nat.{ℕ, ◌-◌}
-use mathlib.Core.Path.{◌≡◌, refl, ◌∙◌}
-use mathlib.Core.List.{List}
-use lib.ListN.{length}
+use mathlib.Core.Path.{refl, ◌∙◌}
 use native.Mathlib.Omega.{arith}
 use Rattle.skyline.specs.Skyline.{Walked}
 use Rattle.skyline.proofs.Update.{walk_left, walk_edge, walk_next, walk_done}

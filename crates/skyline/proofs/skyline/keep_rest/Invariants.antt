@@ -1,10 +1,8 @@
 use Prim.Native.Nat.{ℕ, ◌-◌}
-use mathlib.Core.Path.{◌≡◌, refl, ◌∙◌}
+use mathlib.Core.Path.{◌≡◌}
 use mathlib.Core.List.{List}
 use lib.ListN.{length}
-use native.Mathlib.Omega.{arith}
 use Rattle.skyline.specs.Skyline.{Walked}
-use Rattle.skyline.proofs.Update.{walk_left, walk_edge, walk_next, walk_done}
 use Rattle.skyline.proofs.skyline.keep_rest.Given as goal
 
 abbrev pub invariant-loop-j : goal.invariant-loop-j

@@ -4,7 +4,6 @@ use Rattle.skyline.proofs.skyline.push.Goals.{then-n-gt0+else-ys-n, else-n-gt0}
 use native.Mathlib.Omega.{arith}
 use lib.ListN.{get_or}
 use Rattle.skyline.proofs.Update.{push_merge, push_new}
-use borrow.Author.Rules.{rules}
 use Rattle.skyline.proofs.skyline.push.Goals as goal
 
 pub returns-then-ys-n : goal.returns-then-ys-n

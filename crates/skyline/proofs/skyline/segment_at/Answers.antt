@@ -1,5 +1,3 @@
-use Prim.Native.Nat.{◌≤◌, ◌<◌, ◌-◌}
-use lib.ListN.{get_or}
 use native.Mathlib.Omega.{arith}
 use Rattle.skyline.proofs.Update.{seek}
 use Rattle.skyline.proofs.skyline.segment_at.Goals as goal

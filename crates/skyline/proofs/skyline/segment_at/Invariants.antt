@@ -1,7 +1,5 @@
 use Prim.Native.Nat.{◌≤◌, ◌<◌, ◌-◌}
 use lib.ListN.{get_or}
-use native.Mathlib.Omega.{arith}
-use Rattle.skyline.proofs.Update.{seek}
 use Rattle.skyline.proofs.skyline.segment_at.Given as goal
 
 abbrev pub invariant-loop-j : goal.invariant-loop-j

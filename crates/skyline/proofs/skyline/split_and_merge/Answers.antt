@@ -3,7 +3,6 @@ use native.Mathlib.Omega.{arith}
 use lib.ListN.{get_or}
 use Rattle.skyline.specs.Skyline.{Walked}
 use Rattle.skyline.proofs.Update.{cut, walk_first}
-use borrow.Author.Rules.{rules}
 use Rattle.skyline.proofs.skyline.split_and_merge.Goals.{After-push-k}
 use Rattle.skyline.proofs.skyline.split_and_merge.Goals as goal
 

@@ -1,12 +1,9 @@
-use Prim.Native.Nat.{ℕ, ◌+◌, ◌≤◌, ◌<◌, ◌-◌}
-use mathlib.Core.Path.{◌≡◌, ap, ◌∙◌, sym, refl}
+use Prim.Native.Nat.{ℕ, ◌≤◌, ◌-◌}
+use mathlib.Core.Path.{◌≡◌}
 use lib.ListN.{get_or}
-use native.Mathlib.Omega.{arith}
-use Rattle.geometry.specs.Placing.{rank, fitting_at, best_of, candidates_from, spot_for, is_found}
+use Rattle.geometry.specs.Placing.{rank, best_of, candidates_from, spot_for}
 use Rattle.skyline.specs.Skyline.{Level}
 use Rattle.geometry.specs.declared.spot.Found.TheVariants.{Nothing}
-use Rattle.skyline.proofs.Search.{search_start, search_end, start_decides, start-leaves}
-use Rattle.skyline.proofs.Skylines.{search_next}
 use Rattle.skyline.proofs.skyline_packer.can_pack.Given as goal
 
 abbrev pub invariant-loop-i : goal.invariant-loop-i

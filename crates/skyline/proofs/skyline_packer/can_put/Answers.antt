@@ -1,10 +1,9 @@
-use Prim.Native.Nat.{◌-◌, ◌≤◌}
+use Prim.Native.Nat.{◌≤◌}
 use mathlib.Core.Path.{refl}
 use native.Mathlib.Omega.{arith}
 use lib.ListN.{get_or}
 use Rattle.skyline.proofs.Skylines.{in_area, seg_width}
 use Rattle.skyline.proofs.Search.{outside-wide, outside_low, not-put, put_low, put-here}
-use borrow.Author.Rules.{rules}
 use Rattle.skyline.proofs.skyline_packer.can_put.Goals.{Start}
 use Rattle.skyline.proofs.skyline_packer.can_put.Goals as goal
 

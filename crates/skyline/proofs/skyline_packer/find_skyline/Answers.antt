@@ -1,12 +1,9 @@
-use Prim.Native.Nat.{ℕ, ◌≤◌, ◌<◌, ◌-◌}
+use Prim.Native.Nat.{ℕ, ◌<◌}
 use mathlib.Core.Path.{◌≡◌, ap, ◌∙◌, sym, refl}
 use Rattle.skyline.proofs.skyline_packer.find_skyline.Goals.{then-fits_some, else-fits_some}
 use lib.ListN.{get_or}
 use native.Mathlib.Omega.{arith}
-use borrow.Author.Rules.{rules}
-use Rattle.geometry.specs.Placing.{rank, best_of, candidates_from, spot_for}
 use Rattle.geometry.specs.Choice.{lowest}
-use Rattle.skyline.specs.Skyline.{Level}
 use Rattle.geometry.proofs.Choices.{lowest-none}
 use Rattle.skyline.proofs.Search.{search_start, search_end, try_none}
 use Rattle.skyline.proofs.Skylines.{search_next}

@@ -1,10 +1,9 @@
-use Prim.Native.Nat.{◌-◌, ◌≤◌}
+use Prim.Native.Nat.{◌≤◌}
 use mathlib.Core.Path.{◌∙◌}
 use native.Mathlib.Omega.{arith}
 use lib.ListN.{get_or}
 use Rattle.skyline.proofs.Skylines.{in_area}
 use Rattle.skyline.proofs.Search.{outside-wide, outside_low, inside_under}
-use borrow.Author.Rules.{rules}
 use Rattle.skyline.proofs.skyline_packer.fits_at.Goals.{Start}
 use Rattle.skyline.proofs.skyline_packer.fits_at.Goals as goal
 

@@ -1,7 +1,6 @@
 use mathlib.Core.Path.{◌∙◌, sym}
 use Rattle.geometry.specs.Placing.{lying}
 use Rattle.skyline.proofs.Search.{any_upright, any_turned, any_neither}
-use borrow.Author.Rules.{rules}
 use Rattle.skyline.proofs.skyline_packer.fits_some.Goals as goal
 
 pub returns-then-fits_at : goal.returns-then-fits_at

@@ -1,5 +1,4 @@
 use Rattle.skyline.proofs.Skylines.{empty_holds}
-use borrow.Author.Rules.{rules}
 use Rattle.skyline.proofs.skyline_packer.new.Goals as goal
 
 pub returns : goal.returns

@@ -11,7 +11,6 @@ use Rattle.geometry.proofs.Heights.{lifted}
 use Rattle.skyline.proofs.Skylines.{start_seg}
 use Rattle.geometry.proofs.Fitting.{Told, told}
 use Rattle.geometry.proofs.Theorems.{chosen_fits}
-use borrow.Author.Rules.{rules}
 use Rattle.skyline.proofs.skyline_packer.pack.Goals.{In-Nothing}
 use Rattle.skyline.proofs.skyline_packer.pack.Goals.{In-At}
 use Rattle.skyline.proofs.skyline_packer.pack.Goals as goal

@@ -1,13 +1,7 @@
-use Prim.Native.Nat.{ℕ, ◌≤◌, ◌<◌, ◌-◌, min}
-use mathlib.Core.Path.{sym, subst}
-use native.Mathlib.Nat.{lt_of_lt_of_le}
+use Prim.Native.Nat.{ℕ, ◌≤◌, ◌-◌, min}
 use lib.ListN.{get_or}
-use native.Mathlib.Omega.{arith}
-use borrow.Author.Tests.{le-leb, lt-leb}
 use Rattle.geometry.specs.Placing.{top}
 use Rattle.skyline.specs.Skyline.{Level}
-use Rattle.geometry.proofs.Heights.{top-none}
-use Rattle.skyline.proofs.Skylines.{top-step, top_over, top_passed, before_edge}
 use Rattle.skyline.proofs.skyline_packer.stays_under.Given as goal
 
 abbrev pub invariant-loop-j : goal.invariant-loop-j

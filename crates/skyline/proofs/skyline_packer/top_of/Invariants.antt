@@ -1,12 +1,8 @@
 use Prim.Native.Nat.{ℕ, ◌≤◌, ◌-◌, min}
-use mathlib.Core.Path.{◌≡◌, ◌∙◌}
-use mathlib.Core.Logic.{⊎_elim}
+use mathlib.Core.Path.{◌≡◌}
 use lib.ListN.{get_or}
-use native.Mathlib.Omega.{arith}
 use Rattle.geometry.specs.Placing.{top}
 use Rattle.skyline.specs.Skyline.{Level}
-use Rattle.geometry.proofs.Heights.{top-none}
-use Rattle.skyline.proofs.Skylines.{top-step, top_passed, before_edge}
 use Rattle.skyline.proofs.skyline_packer.top_of.Given as goal
 
 abbrev pub invariant-loop-j : goal.invariant-loop-j

@@ -1,4 +1,3 @@
-use borrow.Author.Rules.{rules}
 use Rattle.wire.proofs.answers.asked.Goals as goal
 
 pub returns-in-Refused : goal.returns-in-Refused

@@ -3,7 +3,6 @@ use mathlib.Core.Bool.{false, not}
 use lib.Dec.{T}
 use lib.Ieee.{Float, nan, inf, fin, is_nan, ne, to_bits}
 use lib.Ieee.Compare.{differs_from_itself}
-use borrow.Author.Rules.{rules}
 use Rattle.wire.proofs.answers.bits_of.Goals as goal
 
 -- `bits_of` asks the bits of no NaN. Assumes nothing.

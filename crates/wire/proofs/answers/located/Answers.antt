@@ -1,6 +1,5 @@
 use mathlib.Core.Path.{refl}
 use native.Mathlib.Omega.{arith}
-use borrow.Author.Rules.{rules}
 use Rattle.wire.proofs.answers.located.Goals as goal
 
 pub returns-in-Pixels : goal.returns-in-Pixels

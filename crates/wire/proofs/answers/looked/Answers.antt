@@ -1,6 +1,5 @@
 use mathlib.Core.Path.{refl}
 use native.Mathlib.Omega.{arith}
-use borrow.Author.Rules.{rules}
 use Rattle.wire.proofs.answers.looked.Goals as goal
 
 pub returns-in-Shows : goal.returns-in-Shows

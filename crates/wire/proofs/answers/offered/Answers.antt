@@ -1,6 +1,5 @@
 use mathlib.Core.Path.{refl}
 use native.Mathlib.Omega.{arith}
-use borrow.Author.Rules.{rules}
 use Rattle.wire.proofs.answers.offered.Goals as goal
 
 pub returns-in-Placed : goal.returns-in-Placed

@@ -1,4 +1,3 @@
-use borrow.Author.Rules.{rules}
 use Rattle.wire.proofs.answers.opened.Goals as goal
 
 pub returns-in-Done : goal.returns-in-Done

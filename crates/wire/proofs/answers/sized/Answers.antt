@@ -1,6 +1,5 @@
 use mathlib.Core.Path.{refl}
 use native.Mathlib.Omega.{arith}
-use borrow.Author.Rules.{rules}
 use Rattle.wire.proofs.answers.sized.Goals as goal
 
 pub returns-in-Is : goal.returns-in-Is

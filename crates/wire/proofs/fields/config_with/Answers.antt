@@ -1,4 +1,3 @@
-use borrow.Author.Rules.{rules}
 use Rattle.wire.specs.Fields.{config_with}
 use Rattle.wire.proofs.fields.config_with.Goals as goal
 

@@ -1,4 +1,3 @@
-use borrow.Author.Rules.{rules}
 use Rattle.wire.specs.Fields.{frame_with}
 use Rattle.wire.proofs.fields.frame_with.Goals as goal
 

@@ -1,6 +1,5 @@
 use Prim.Native.Nat.{◌%◌}
 use lib.ListN.{set}
-use borrow.Author.Rules.{rules}
 use borrow.Author.Tests.{lt-ltb, le-ltb, eq-eqb, ne_eqb}
 use Rattle.records.specs.Settings.{blank_record}
 use Rattle.wire.specs.Fields.{layout_with, with_config, with_count, with_record_at}

@@ -1,4 +1,3 @@
-use borrow.Author.Rules.{rules}
 use borrow.Author.Tests.{eq-eqb, ne_eqb}
 use Rattle.wire.specs.Fields.{picked}
 use Rattle.wire.proofs.fields.pick_turn.Goals as goal

@@ -1,4 +1,3 @@
-use borrow.Author.Rules.{rules}
 use Rattle.wire.specs.Fields.{record_with}
 use Rattle.wire.proofs.fields.record_with.Goals as goal
 

@@ -1,4 +1,3 @@
-use borrow.Author.Rules.{rules}
 use Rattle.wire.specs.Fields.{source_with}
 use Rattle.wire.proofs.fields.source_with.Goals as goal
 

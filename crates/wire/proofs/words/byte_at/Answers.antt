@@ -1,6 +1,5 @@
 use native.Mathlib.Omega.{arith}
 use mathlib.Core.Path.{refl}
-use borrow.Author.Rules.{rules}
 use Rattle.wire.proofs.words.byte_at.Goals as goal
 
 pub returns : goal.returns

@@ -1,10 +1,9 @@
-use Prim.Native.Nat.{◌+◌, ◌-◌, ◌≤◌}
+use Prim.Native.Nat.{◌+◌}
 use native.Mathlib.Numerals.{add-one}
 use native.Mathlib.Omega.{arith}
 use mathlib.Core.Path.{◌≡◌, sym, ap, ◌∙◌}
 use lib.ListN.{length, set, get_or}
 use lib.Seq.{paste, paste-zero, paste-suc, length-paste}
-use borrow.Author.Rules.{rules}
 use Rattle.wire.proofs.Putting.{paste-put}
 use Rattle.wire.proofs.words.put_bytes.Goals.{At-loop-i}
 use Rattle.wire.proofs.words.put_bytes.Goals as goal

@@ -1,11 +1,7 @@
-use Prim.Native.Nat.{◌+◌, ◌-◌, ◌≤◌}
-use native.Mathlib.Numerals.{add-one}
-use native.Mathlib.Omega.{arith}
-use mathlib.Core.Path.{◌≡◌, sym, ap, ◌∙◌}
-use lib.ListN.{length, set, get_or}
-use lib.Seq.{paste, paste-zero, paste-suc, length-paste}
-use borrow.Author.Rules.{rules}
-use Rattle.wire.proofs.Putting.{paste-put}
+use Prim.Native.Nat.{◌-◌, ◌≤◌}
+use mathlib.Core.Path.{◌≡◌}
+use lib.ListN.{length}
+use lib.Seq.{paste}
 use Rattle.wire.proofs.words.put_bytes.Given as goal
 
 -- `put_bytes` copies the bytes one by one. Assumes nothing.

@@ -1,6 +1,5 @@
 use native.Mathlib.Omega.{arith}
 use lib.ListN.{length-set}
-use borrow.Author.Rules.{rules}
 use Rattle.wire.proofs.Putting.{four_sets}
 use Rattle.wire.proofs.words.put_word.Goals as goal
 

@@ -1,11 +1,7 @@
-use Prim.Native.Nat.{◌+◌, ◌-◌, ◌*◌, ◌≤◌}
-use native.Mathlib.Omega.{arith}
-use mathlib.Core.Path.{◌≡◌, sym, ap, ◌∙◌}
-use lib.ListN.{length, take, get_or}
-use lib.Seq.{length-take-le}
-use borrow.Author.Rules.{rules}
-use Rattle.wire.specs.Bytes.{word_bytes, words_bytes, put}
-use Rattle.wire.proofs.Putting.{put-none, put-long, put-behind, word-long, words_long, words_more}
+use Prim.Native.Nat.{◌-◌, ◌≤◌}
+use mathlib.Core.Path.{◌≡◌}
+use lib.ListN.{take}
+use Rattle.wire.specs.Bytes.{words_bytes, put}
 use Rattle.wire.proofs.words.put_words.Given as goal
 
 -- `put_words` writes the words one behind the other. Assumes nothing.

@@ -1,5 +1,4 @@
 use native.Mathlib.Omega.{arith}
-use borrow.Author.Rules.{rules}
 use Rattle.wire.specs.Bytes.{word_at}
 use Rattle.wire.proofs.words.word_at.Goals as goal
 

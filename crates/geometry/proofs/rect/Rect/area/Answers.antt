@@ -1,6 +1,5 @@
 use native.Mathlib.Omega.{arith}
 use Rattle.geometry.proofs.Rects.{product_fits}
-use borrow.Author.Rules.{rules}
 use Rattle.geometry.proofs.rect.Rect.area.Goals as goal
 
 pub overflow_mul-result : goal.overflow_mul-result

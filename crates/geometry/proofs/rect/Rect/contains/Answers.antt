@@ -1,5 +1,4 @@
 use Rattle.geometry.specs.Rects.{holds_rect}
-use borrow.Author.Rules.{rules}
 use Rattle.geometry.proofs.rect.Rect.contains.Goals as goal
 
 pub returns : goal.returns

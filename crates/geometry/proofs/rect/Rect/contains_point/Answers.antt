@@ -1,5 +1,4 @@
 use Rattle.geometry.specs.Rects.{holds_point}
-use borrow.Author.Rules.{rules}
 use Rattle.geometry.proofs.rect.Rect.contains_point.Goals as goal
 
 pub returns : goal.returns

@@ -1,5 +1,4 @@
 use Rattle.geometry.specs.Rects.{on_outline}
-use borrow.Author.Rules.{rules}
 use Rattle.geometry.proofs.rect.Rect.is_outline.Goals as goal
 
 pub returns : goal.returns
