@@ -1,13 +1,11 @@
 // What the programs say, on standard output.
-use crate::system;
 use geometry::rect::{Rect, Size};
 use records::refusal;
 use records::refusal::Refusal;
-use std::io;
 
 // What cannot be written is left unsaid: the work goes on.
 pub fn say(rt: &impl Print, text: &[u8]) {
-    system::write_all(&mut io::writer(rt), text);
+    let _ = rt.write_all(text);
 }
 
 pub fn say_number(rt: &impl Print, n: u64) {
