@@ -107,7 +107,6 @@ module _ (l : Layout) (k : Key) (q : Request) where
 
 -- "16 .. (not asked for pixel answers)": pixels are refused for 2 and 15 only
 pub pixels-only : (l : Layout) (k : Key) (r : Refusal) → located l k AskPixels ≡ Refused r → (r ≡ NotWellFormed) ⊎ (r ≡ NoSuchKey)
-go (mathlib.Core.List.Memᴰ.tail (mathlib.Core.List.Memᴰ.tail (mathlib.Core.List.Memᴰ.tail (mathlib.Core.List.Memᴰ.tail x16)))) = elim x16 [ ]
 pixels-only l k r e = go (locate_only l k AskPixels r e)
   where
     never : {A : Type 0} → false ≡ true → A
@@ -118,6 +117,7 @@ pixels-only l k r e = go (locate_only l k AskPixels r e)
     go (Memᴰ.tail (Memᴰ.head p)) = inr p
     go (Memᴰ.tail (Memᴰ.tail (Memᴰ.head p))) = never ((locate_17 l k AskPixels).0 (e ∙ ap Refused p)).2
     go (Memᴰ.tail (Memᴰ.tail (Memᴰ.tail (Memᴰ.head p)))) = never ((locate_16 l k AskPixels).0 (e ∙ ap Refused p)).3
+    go (Memᴰ.tail (Memᴰ.tail (Memᴰ.tail (Memᴰ.tail p)))) = elim p [ ]
 
 -- edges are never answered 17
 pub edges_17 : (l : Layout) (k : Key) → located l k Edges ≡ Refused BadInset → ⊥

@@ -55,6 +55,7 @@ module _ (s : Stores) (p : Page) where
 
   -- no image on the page runs past its store: each lies in it
   pub page_in_store : (rs : List Record) → page_past s p rs ≡ false → (r : Record) → Memᴰ r rs → eqb r.page.0 p.0 ≡ true → InStore s (image_of r)
+  page_in_store [] e r x3 on = elim x3 [ ]
   page_in_store (q ∷ rs) e r (Memᴰ.head same) on =
       let here : past_here q ≡ false = or_no_left (past_here q) (page_past s p rs) (sym (past_cons q rs) ∙ e) in
       record { inside = and_second _ _ (ap past_here same ∙ here) on }

@@ -21,17 +21,3 @@ pub fn run<'a>(script: &'a [u8], symbols: &'a [u8], wording: &'a [u8], answers: 
     }
     running::run_commands(script, symbols, wording, answers)
 }
-
-// The same for callers in other languages.
-#[unsafe(no_mangle)]
-pub extern "C" fn firmeskal_run<'a>(
-    script: &'a [u8],
-    symbols: &'a [u8],
-    wording: &'a [u8],
-    answers: &mut [u8],
-) -> usize
-    ensures value { result ≡ length (ran script.now (lent symbols.now wording.now) (length answers.old)) }
-    ensures answers_after { answers.new ≡ put answers.old 0 (ran script.now (lent symbols.now wording.now) (length answers.old)) }
-{
-    run(script, symbols, wording, answers)
-}

@@ -9,7 +9,7 @@ use Rattle.coords.proofs.locate.answer_request.Goals as goal
 
 pub returns-then-not-is_between : goal.returns-then-not-is_between
 returns-then-not-is_between c =
-        let a = c.args in
+    let a = c.args in
     sym (ap (λ (q : Request). requested q a.f a.s) c.in-Inset.is ∙ ask-not-between a.f a.s _ (sym c.is_between.ensures ∙ c.if-not-is_between.true))
 
 pub returns-in-Pixels : goal.returns-in-Pixels
@@ -23,5 +23,5 @@ returns-in-Edges c =
 
 pub returns-else-not-is_between : goal.returns-else-not-is_between
 returns-else-not-is_between c =
-            let a = c.args in
+    let a = c.args in
     c.texels-in-Inset.ensures ∙ sym (ap (λ (q : Request). requested q a.f a.s) c.in-Inset.is ∙ ask-inset a.f a.s _ (sym c.is_between.ensures ∙ c.if-not-is_between.false))

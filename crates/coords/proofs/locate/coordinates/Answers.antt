@@ -36,11 +36,11 @@ below c = let n = counted c.before.before in omega (arith, c.find_key-at.ensures
 -- what is read there is that record
 here : (c : Else-l-at) → get_or c.args.l.records c.find_key-at.result blank_record ≡ placed c.args.l c.args.key
 here c =
-        let l = c.args.l in
+    let l = c.args.l in
     sym (ap (λ (i : ℕ). get_or (standing l) i blank_record) (sym c.find_key-at.ensures) ∙ standing-at l (long c.before.before.before.before) (formed l (well c.before.before)).few blank_record c.find_key-at.result c.if-l-at.false)
 
 pub returns-then-not-well_formed : goal.returns-then-not-well_formed
-returns-then-not-well_formed c = 
+returns-then-not-well_formed c =
     let both = says located_numbers (sym (unformed _ _ _ (sym c.well_formed-2.ensures ∙ c.if-not-well_formed.true))) in
     record { value = both.0; result_value = both.1 }
 
@@ -49,8 +49,7 @@ find_key-at-requires c = well c
 
 pub returns-then-l-at : goal.returns-then-l-at
 returns-then-l-at c =
-        let n = counted (goal.at.returns-then-l-at c).Else-not-well_formed in
-
+    let n = counted (goal.at.returns-then-l-at c).Else-not-well_formed in
     let both = says located_numbers (sym (keyless _ _ _ (well (goal.at.returns-then-l-at c).Else-not-well_formed) (unnamed _ _ (omega (arith, c.find_key-at.ensures))).stands)) in
     record { value = both.0; result_value = both.1 }
 
@@ -70,6 +69,5 @@ answer_request-requires c = read_countable _ _ (well (goal.at.answer_request-req
 pub returns : goal.returns
 unfolding blank_record
 returns c =
-        
     let both = says located_numbers (read_found _ _ (well (goal.at.returns c).Else-not-well_formed) (below (goal.at.returns c).Else-l-at) _ _ (here (goal.at.returns c).Else-l-at) c.size_of_page-s.ensures _ c.answer_request.ensures) in
     record { value = both.0; result_value = both.1 }

@@ -5,4 +5,4 @@ use Rattle.coords.proofs.locate.corners_of.Goals as goal
 pub returns : goal.returns
 unfolding corners
 returns c =
-            λ i. record { left = c.low_edge-left.ensures i; top = c.low_edge-top.ensures i; right = c.high_edge-right.ensures i; bottom = c.high_edge-bottom.ensures i }
+    λ i. record { left = c.low_edge-left.ensures i; top = c.low_edge-top.ensures i; right = c.high_edge-right.ensures i; bottom = c.high_edge-bottom.ensures i }

@@ -1,0 +1,19 @@
+use mathlib.Core.Path.{ap, ◌∙◌, subst}
+use borrow.Author.Rules.{rules}
+use Rattle.art.specs.Stores.{lent}
+use Rattle.rules.specs.Operations.{offered, offered_numbers}
+use Rattle.wire.specs.Fields.{store_of}
+use Rattle.wire.specs.Saying.{Says}
+use Rattle.commands.specs.Reading.{key_at, image_at}
+use Rattle.commands.specs.Telling.{offer_told}
+use Rattle.commands.proofs.offer.Goals as goal
+
+pub returns : goal.returns
+unfolding offer_told key_at image_at
+returns c =
+    let a = c.args in
+    let key = c.word_at.ensures in
+    let store = c.store_of-store.ensures ∙ ap store_of c.word_at-2.ensures in
+    let e = c.offer-o.ensures.value
+    ∙ (λ i. offered a.l (lent a.symbols.now a.wording.now) (record { 0 = key i }) (record { store = store i; offset = c.word_at-offset.ensures i; w = c.word_at-w.ensures i; h = c.word_at-h.ensures i })) in
+    record { says = subst (λ o. Says (offered_numbers o.answer) c.offered-answer.result) e c.offered-answer.ensures; layout = ap (λ o. o.layout) e }

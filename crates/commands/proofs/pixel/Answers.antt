@@ -1,0 +1,16 @@
+use mathlib.Core.Path.{◌∙◌, subst}
+use borrow.Author.Rules.{rules}
+use Rattle.art.specs.Stores.{lent}
+use Rattle.lookup.specs.Looking.{looked, looked_numbers}
+use Rattle.wire.specs.Saying.{Says}
+use Rattle.commands.specs.Reading.{page_at}
+use Rattle.commands.specs.Telling.{pixel_told}
+use Rattle.commands.proofs.pixel.Goals as goal
+
+pub returns : goal.returns
+unfolding pixel_told page_at
+returns c =
+    let a = c.args in
+    let e = c.pixel.ensures.value
+    ∙ (λ i. looked a.l (lent a.symbols.now a.wording.now) (record { 0 = c.word_at.ensures i }) (c.word_at-x.ensures i) (c.word_at-y.ensures i)) in
+    subst (λ o. Says (looked_numbers o) c.looked.result) e c.looked.ensures

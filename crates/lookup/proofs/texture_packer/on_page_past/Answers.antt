@@ -1,0 +1,12 @@
+use mathlib.Core.Path.{ap, ◌∙◌}
+use mathlib.Core.Bool.{Bool, ◌&&◌}
+use lib.Dec.{eqb}
+use borrow.Author.Rules.{rules}
+use Rattle.art.specs.Stores.{lent, runs_past}
+use Rattle.lookup.proofs.texture_packer.on_page_past.Goals as goal
+
+pub returns : goal.returns
+returns c =
+    let a = c.args in
+    ap (λ (b : Bool). eqb a.r.page.0 a.page.0 && b)
+    (c.runs_past.ensures ∙ ap (runs_past (lent a.symbols.now a.wording.now)) c.image_of-image.ensures)

@@ -1,0 +1,60 @@
+use Prim.Native.Nat.{◌+◌}
+use native.Mathlib.Omega.{arith}
+use mathlib.Core.Path.{◌≡◌, ap, ◌∙◌}
+use lib.ListN.{length, take}
+use lib.Seq.{length-take-le}
+use borrow.Author.Rules.{rules}
+use Rattle.art.specs.Stores.{lent}
+use Rattle.commands.specs.Reading.{word}
+use Rattle.commands.specs.Taking.{words_of}
+use Rattle.script.specs.Doing.{composed_size}
+use Rattle.script.specs.Stepping.{next_at, compose_step}
+use Rattle.script.proofs.Answers.{does_stop, does_go}
+use Rattle.script.proofs.Composing.{size-at_most}
+use Rattle.script.proofs.Ways.{compose_said, compose_goes, compose_stops, compose_said-long, compose_written}
+use Rattle.script.proofs.bytes.compose_step.Goals as goal
+
+pub returns-then-answers-written : goal.returns-then-answers-written
+returns-then-answers-written c =
+    let a = c.args in
+    let script = a.script.now in
+    let s = lent a.symbols.now a.wording.now in
+    let old = a.answers.now in
+    let said = take a.written old in
+    let so : length said ≡ a.written = length-take-le a.written old (omega arith) in
+    let size = c.word_at-size.ensures in
+    does_stop a.written old c.stopped.result (compose_step script s (length old) said a.at a.l) 3
+    (compose_stops script s a.at a.l (length old) said (omega arith)) (ap (λ r. r.code) c.stopped.ensures)
+
+pub overflow_cast-more : goal.overflow_cast-more
+overflow_cast-more c = let m = size-at_most c.compose_in-o.result c.word_at-size.result in let e = c.composed_size-more.ensures in omega arith
+
+pub write_number-requires : goal.write_number-requires
+write_number-requires c =
+    let m = size-at_most c.compose_in-o.result c.word_at-size.result in
+    let e = c.composed_size-more.ensures in
+    let k = c.compose_in-o.auto.answers in
+    (omega arith, omega arith)
+
+pub overflow_add-result-2 : goal.overflow_add-result-2
+overflow_add-result-2 c = let m = size-at_most c.compose_in-o.result c.word_at-size.result in let e = c.composed_size-more.ensures in omega arith
+
+pub returns : goal.returns
+unfolding next_at words_of
+returns c =
+    let a = c.args in
+    let script = a.script.now in
+    let s = lent a.symbols.now a.wording.now in
+    let old = a.answers.now in
+    let said = take a.written old in
+    let so : length said ≡ a.written = length-take-le a.written old (omega arith) in
+    let size = c.word_at-size.ensures in
+    let m = c.composed_size-more.ensures ∙ (λ i. composed_size c.compose_in-o.result (size i)) in
+    let long = compose_said-long script s a.at a.l in
+    let same = ap (λ o. composed_size o (word script a.at 8)) c.compose_in-o.ensures.value in
+    let to : a.written + 8 + c.composed_size-more.result ≡ a.written + length (compose_said script s a.at a.l) = omega arith in
+    does_go a.written old _ (compose_step script s (length old) said a.at a.l) _ a.l (a.at + 36) (compose_said script s a.at a.l)
+    (compose_goes script s a.at a.l (length old) said (omega arith))
+    (λ i. record { layout = a.l; next = a.at + 36; written = to i; code = 0 })
+    (compose_written script s a.at a.l old a.written c.compose_in-o.result c.composed.result c.composed_size-more.result
+    c.compose_in-o.ensures.value c.composed.ensures m c.compose_in-o.ensures.answers_after c.write_number.ensures (omega arith))

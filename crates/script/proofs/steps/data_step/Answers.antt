@@ -1,0 +1,25 @@
+use Prim.Native.Nat.{◌+◌, ◌*◌}
+use native.Mathlib.Omega.{arith}
+use mathlib.Core.Path.{◌≡◌, ap}
+use lib.ListN.{length}
+use borrow.Author.Rules.{rules}
+use borrow.Author.Tests.{lt-ltb, le-ltb}
+use Rattle.wire.specs.Bytes.{word_at}
+use Rattle.commands.specs.Taking.{words_of}
+use Rattle.script.specs.Stepping.{next_at, data_step}
+use Rattle.script.proofs.steps.data_step.Goals as goal
+
+pub returns-then-left-n : goal.returns-then-left-n
+unfolding data_step next_at words_of
+returns-then-left-n c =
+    let a = c.args in
+    let n = c.word_at-n.ensures in
+    rw (lt-ltb (length a.script.now) (a.at + 8 + 4 * word_at a.script.now (a.at + 4)) (omega arith)) (ap (λ s. s.code) c.stopped.ensures)
+
+pub returns : goal.returns
+unfolding data_step next_at words_of
+returns c =
+    let a = c.args in
+    let n = c.word_at-n.ensures in
+    let w : a.written ≡ a.written + 0 = omega arith in
+    rw (le-ltb (length a.script.now) (a.at + 8 + 4 * word_at a.script.now (a.at + 4)) (omega arith)) (λ i. record { layout = a.l; next = a.at + 8 + 4 * n i; written = w i; code = 0 })
