@@ -4,7 +4,7 @@ ghost use Rattle.tool.specs.Counts.{IsPrefixLen};
 
 use std::env::FillError;
 use std::fs::OpenFile;
-use std::io::{Read, Write};
+use std::io::{ErrorKind, Read, Write};
 use std::rt::{Env, Files};
 use std::{fs, str};
 
@@ -73,9 +73,13 @@ pub fn open_overwrite<R: Files>(rt: &R, path: &[u8]) -> Option<R::File> {
     }
 }
 
-// Whether all that was written has reached the file. std says no error of a close, so the system is asked before it.
+// Closes a file that was written, and answers whether all of it has reached the file. std says no error of a close, so the file is synced before it,
+// which finds what a close would find; a file of a kind that is never synced counts as written.
 pub fn close_written<F: OpenFile + Drop>(file: F) -> bool {
-    file.sync_all().is_ok()
+    match file.sync_all() {
+        Ok(()) => true,
+        Err(error) => error.kind() == ErrorKind::InvalidInput,
+    }
 }
 
 pub fn rename(rt: &impl Files, from: &[u8], to: &[u8]) -> bool {
