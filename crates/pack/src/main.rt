@@ -4,6 +4,6 @@
 use tool::driving;
 use tool::driving::Program;
 
-fn main() {
-    driving::run(Program::Pack);
+fn main(rt: HostRuntime) {
+    driving::run(&rt, Program::Pack);
 }

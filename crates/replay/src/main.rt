@@ -2,9 +2,10 @@
 // there are, how many agree, and which differ; what it must print is in the gate.
 #![tactic(auto)]
 
-ghost use Rattle.std.specs.Prelude.{◌≤◌};
+ghost use Rattle.std.specs.Prelude.{◌≤◌, length};
 
-use libc::STDOUT_FILENO;
+use std::io::Read;
+use std::{fs, io};
 
 // What became of a case.
 
@@ -14,12 +15,37 @@ const DIFFERS: u32 = 2;
 
 const BROKEN: u32 = 3;
 
+// One read; 0 also where it fails.
+fn read_some<F: Read>(file: &mut F, buf: &mut [u8]) -> usize
+    ensures { result ≤ length buf.new }
+{
+    match file.read(buf) {
+        Ok(n) => n,
+        Err(_) => 0,
+    }
+}
+
+// Reads until the buffer is full, the file ends or a read fails, and answers how many bytes are in the front of the buffer.
+fn read_full<F: Read>(file: &mut F, buf: &mut [u8]) -> usize
+    ensures { result ≤ length buf.new }
+{
+    let mut done = 0;
+    while done < buf.len() {
+        let n = read_some(file, &mut buf[done..]);
+        if n == 0 {
+            break;
+        }
+        done += n;
+    }
+    done
+}
+
 // A part of n bytes; false where it is larger than the buffer, or cut short.
-fn read_part(fd: i32, buf: &mut [u8], n: usize) -> bool {
+fn read_part<F: Read>(file: &mut F, buf: &mut [u8], n: usize) -> bool {
     if buf.len() < n {
         return false;
     }
-    io::read_full(fd, &mut buf[..n]) == n
+    read_full(file, &mut buf[..n]) == n
 }
 
 // The first n bytes, or none where there are fewer.
@@ -57,8 +83,8 @@ fn agrees<'a>(
 }
 
 // A case is the lengths of its four parts, a word each, and the parts: script, symbols, wording, expected answers.
-fn next_case(
-    fd: i32,
+fn next_case<F: Read>(
+    file: &mut F,
     script: &mut [u8],
     symbols: &mut [u8],
     wording: &mut [u8],
@@ -66,7 +92,7 @@ fn next_case(
     answers: &mut [u8],
 ) -> u32 {
     let mut header = [0u8; 16];
-    let got = io::read_full(fd, &mut header);
+    let got = read_full(file, &mut header);
     let a = wire::words::word_at(&header, 0) as usize;
     let b = wire::words::word_at(&header, 4) as usize;
     let c = wire::words::word_at(&header, 8) as usize;
@@ -74,16 +100,16 @@ fn next_case(
     if got < 16 {
         return BROKEN;
     }
-    if !read_part(fd, script, a) {
+    if !read_part(file, script, a) {
         return BROKEN;
     }
-    if !read_part(fd, symbols, b) {
+    if !read_part(file, symbols, b) {
         return BROKEN;
     }
-    if !read_part(fd, wording, c) {
+    if !read_part(file, wording, c) {
         return BROKEN;
     }
-    if !read_part(fd, expected, d) {
+    if !read_part(file, expected, d) {
         return BROKEN;
     }
     if agrees(
@@ -98,21 +124,26 @@ fn next_case(
     DIFFERS
 }
 
-fn say(text: &[u8]) {
-    io::write_all(STDOUT_FILENO, text);
+// What cannot be written is left unsaid: the replay goes on.
+fn say(rt: &impl Print, text: &[u8]) {
+    let _ = rt.write_all(text);
+}
+
+fn say_number(rt: &impl Print, n: u32) {
+    let _ = rt.print(n);
 }
 
 // Says what is wrong with a case, if anything is.
-fn say_outcome(outcome: u32, case: u32) {
+fn say_outcome(rt: &impl Print, outcome: u32, case: u32) {
     if outcome == DIFFERS {
-        say(b"case ");
-        io::print_decimal(STDOUT_FILENO, case as u64);
-        say(b" differs\n");
+        say(rt, b"case ");
+        say_number(rt, case);
+        say(rt, b" differs\n");
     }
     if outcome == BROKEN {
-        say(b"case ");
-        io::print_decimal(STDOUT_FILENO, case as u64);
-        say(b" is cut short or too large\n");
+        say(rt, b"case ");
+        say_number(rt, case);
+        say(rt, b" is cut short or too large\n");
     }
 }
 
@@ -123,16 +154,17 @@ fn one_if(b: bool) -> u32
 }
 
 // How many cases the file says it has; 0 where it does not even say that.
-fn told_cases(fd: i32) -> u32 {
+fn told_cases<F: Read>(file: &mut F) -> u32 {
     let mut count = [0u8; 4];
-    if io::read_full(fd, &mut count) < 4 {
+    if read_full(file, &mut count) < 4 {
         return 0;
     }
     wire::words::word_at(&count, 0)
 }
 
-fn replay(
-    fd: i32,
+fn replay<F: Read>(
+    rt: &impl Print,
+    file: &mut F,
     told: u32,
     script: &mut [u8],
     symbols: &mut [u8],
@@ -145,32 +177,50 @@ fn replay(
     let mut turns: u32 = 0;
     let mut outcome = AGREES;
     while (turns < told) & (outcome != BROKEN) {
-        outcome = next_case(fd, script, symbols, wording, expected, answers);
-        say_outcome(outcome, cases);
+        outcome = next_case(file, script, symbols, wording, expected, answers);
+        say_outcome(rt, outcome, cases);
         agree += one_if(outcome == AGREES);
         cases += one_if((outcome == AGREES) | (outcome == DIFFERS));
         turns += 1;
     }
-    io::print_decimal(STDOUT_FILENO, cases as u64);
-    say(b" cases, ");
-    io::print_decimal(STDOUT_FILENO, agree as u64);
-    say(b" agree\n");
+    say_number(rt, cases);
+    say(rt, b" cases, ");
+    say_number(rt, agree);
+    say(rt, b" agree\n");
 }
 
-fn main() {
-    let fd = os::open_read(b"cases.bin");
-    if fd < 0 {
-        os::fail(b"cases.bin");
-        return;
+// On standard error, without the number that std puts behind the system's words.
+fn say_failure(rt: &(impl AllocGlobal + Eprint), what: &str, error: io::Error) {
+    let _ = match format!(in rt.alloc(); "{error}") {
+        Ok(text) => eprintln!(rt; "{what}: {}", words_of(text.as_str())),
+        Err(_) => eprintln!(rt; "{what}: {error}"),
+    };
+}
+
+fn words_of(text: &str) -> &str {
+    match text.split_once(" (os error ") {
+        Some((words, _)) => words,
+        None => text,
     }
-    let mut script = io::large_buffer();
-    let mut symbols = io::large_buffer();
-    let mut wording = io::large_buffer();
-    let mut expected = io::large_buffer();
-    let mut answers = io::large_buffer();
-    let told = told_cases(fd);
+}
+
+fn main(rt: HostRuntime) {
+    let mut file = match fs::open(&rt, "cases.bin") {
+        Ok(file) => file,
+        Err(error) => {
+            say_failure(&rt, "cases.bin", error);
+            return;
+        }
+    };
+    let mut script = [0u8; 65536];
+    let mut symbols = [0u8; 65536];
+    let mut wording = [0u8; 65536];
+    let mut expected = [0u8; 65536];
+    let mut answers = [0u8; 65536];
+    let told = told_cases(&mut file);
     replay(
-        fd,
+        &rt,
+        &mut file,
         told,
         &mut script,
         &mut symbols,
@@ -178,5 +228,4 @@ fn main() {
         &mut expected,
         &mut answers,
     );
-    libc::close(fd);
 }

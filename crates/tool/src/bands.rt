@@ -1,7 +1,7 @@
 // A page in bands, each of as many rows as the buffer holds.
 ghost use Rattle.std.specs.Prelude.{◌≡◌, ◌+◌, ◌*◌, ◌≤◌, length};
 
-use crate::files;
+use crate::{files, system};
 use compose::checking::Checked;
 use compose::image_exporter::Composed;
 use compose::{checking, image_exporter};
@@ -10,6 +10,7 @@ use paint::background::Background;
 use records::frame::Page;
 use records::layout::Layout;
 use records::refusal::Refusal;
+use std::io::{Read, Write};
 
 // What became of a page's file.
 #[derive(Clone, Copy)]
@@ -47,8 +48,8 @@ fn rows_at_once(room: usize, row: usize, left: u32) -> u32
 }
 
 // One band, composed in the buffer and written.
-fn write_band<'a>(
-    fd: i32,
+fn write_band<'a, F: Write>(
+    file: &mut F,
     band: &mut [u8],
     l: Layout,
     symbols: &'a [u8],
@@ -61,7 +62,7 @@ fn write_band<'a>(
     match image_exporter::compose_rows(l, symbols, wording, page, background, first, rows, band) {
         Composed::Refused(r) => Filed::Refused(r),
         Composed::Done => {
-            if io::write_all(fd, band) {
+            if system::write_all(file, band) {
                 Filed::Same
             } else {
                 Filed::Unwritten
@@ -96,8 +97,8 @@ fn check_bytes<'a>(
 }
 
 // One band, read into the buffer and checked there.
-fn check_band<'a>(
-    fd: i32,
+fn check_band<'a, F: Read>(
+    file: &mut F,
     band: &mut [u8],
     l: Layout,
     symbols: &'a [u8],
@@ -110,9 +111,9 @@ fn check_band<'a>(
 ) -> Filed
     requires { (1 ≤ row) × (length band.old ≡ row * rows) × (first + rows ≤ 4294967295) }
 {
-    let got = io::read_full(fd, band);
+    let got = system::read_full(file, band);
     if got < band.len() {
-        if files::rest(fd) < 0 {
+        if files::rest(file) < 0 {
             return Filed::Unreadable;
         }
         return Filed::TooShort(first + (got / row) as u32);
@@ -121,8 +122,8 @@ fn check_band<'a>(
 }
 
 // The end of a file whose rows are all there and the same.
-fn check_end(fd: i32) -> Filed {
-    let rest = files::rest(fd);
+fn check_end<F: Read>(file: &mut F) -> Filed {
+    let rest = files::rest(file);
     if rest < 0 {
         return Filed::Unreadable;
     }
@@ -132,9 +133,9 @@ fn check_end(fd: i32) -> Filed {
     Filed::Same
 }
 
-fn do_band<'a>(
+fn do_band<'a, F: Read + Write>(
     task: Task,
-    fd: i32,
+    file: &mut F,
     band: &mut [u8],
     l: Layout,
     symbols: &'a [u8],
@@ -148,17 +149,19 @@ fn do_band<'a>(
     requires { (1 ≤ row) × (length band.old ≡ row * rows) × (first + rows ≤ 4294967295) }
 {
     match task {
-        Task::Write => write_band(fd, band, l, symbols, wording, page, background, first, rows),
+        Task::Write => write_band(
+            file, band, l, symbols, wording, page, background, first, rows,
+        ),
         Task::Check => check_band(
-            fd, band, l, symbols, wording, page, background, row, first, rows,
+            file, band, l, symbols, wording, page, background, row, first, rows,
         ),
     }
 }
 
 // A page of w by h, from its first row to its last.
-fn each_band<'a>(
+fn each_band<'a, F: Read + Write>(
     task: Task,
-    fd: i32,
+    file: &mut F,
     buf: &mut [u8],
     l: Layout,
     symbols: &'a [u8],
@@ -180,7 +183,7 @@ fn each_band<'a>(
         let long = row * n as usize;
         let f = do_band(
             task,
-            fd,
+            file,
             &mut buf[..long],
             l,
             symbols,
@@ -200,8 +203,8 @@ fn each_band<'a>(
 }
 
 // A page composed, and written to an open file.
-pub fn write_page<'a>(
-    fd: i32,
+pub fn write_page<'a, F: Read + Write>(
+    file: &mut F,
     buf: &mut [u8],
     l: Layout,
     symbols: &'a [u8],
@@ -216,7 +219,7 @@ pub fn write_page<'a>(
     }
     each_band(
         Task::Write,
-        fd,
+        file,
         buf,
         l,
         symbols,
@@ -229,8 +232,8 @@ pub fn write_page<'a>(
 }
 
 // The bytes of an open file, which has to be as long as the page.
-pub fn check_page<'a>(
-    fd: i32,
+pub fn check_page<'a, F: Read + Write>(
+    file: &mut F,
     buf: &mut [u8],
     l: Layout,
     symbols: &'a [u8],
@@ -245,7 +248,7 @@ pub fn check_page<'a>(
     }
     let f = each_band(
         Task::Check,
-        fd,
+        file,
         buf,
         l,
         symbols,
@@ -255,5 +258,5 @@ pub fn check_page<'a>(
         w,
         size.h,
     );
-    if is_same(f) { check_end(fd) } else { f }
+    if is_same(f) { check_end(file) } else { f }
 }

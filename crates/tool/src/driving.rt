@@ -3,10 +3,11 @@ ghost use Rattle.std.specs.Prelude.{◌≡◌, ◌+◌, ◌≤◌, length};
 
 use crate::page_folder::Work;
 use crate::preparing::Ready;
-use crate::{page_folder, placing, preparing, telling};
+use crate::{page_folder, placing, preparing, system, telling};
 use laying::Laid;
 use paint::background::Background;
 use records::layout::Layout;
+use std::rt::{Env, Files};
 
 #[derive(Clone, Copy)]
 pub enum Program {
@@ -15,6 +16,7 @@ pub enum Program {
 }
 
 fn pack_pages<'a>(
+    rt: &(impl Files + Print),
     folder: &'a [u8],
     buf: &mut [u8],
     l: Layout,
@@ -22,15 +24,34 @@ fn pack_pages<'a>(
     wording: &'a [u8],
     background: Background,
 ) -> bool {
-    os::mkdir(folder);
-    if page_folder::each_page(Work::Write, folder, buf, l, symbols, wording, background) {
-        return page_folder::each_page(Work::Place, folder, buf, l, symbols, wording, background);
+    system::make_folder(rt, folder);
+    if page_folder::each_page(
+        rt,
+        Work::Write,
+        folder,
+        buf,
+        l,
+        symbols,
+        wording,
+        background,
+    ) {
+        return page_folder::each_page(
+            rt,
+            Work::Place,
+            folder,
+            buf,
+            l,
+            symbols,
+            wording,
+            background,
+        );
     }
-    page_folder::each_page(Work::Drop, folder, buf, l, symbols, wording, background);
+    page_folder::each_page(rt, Work::Drop, folder, buf, l, symbols, wording, background);
     false
 }
 
 fn do_pages<'a>(
+    rt: &(impl Files + Print),
     program: Program,
     folder: &'a [u8],
     buf: &mut [u8],
@@ -40,8 +61,9 @@ fn do_pages<'a>(
     background: Background,
 ) -> bool {
     match program {
-        Program::Pack => pack_pages(folder, buf, l, symbols, wording, background),
+        Program::Pack => pack_pages(rt, folder, buf, l, symbols, wording, background),
         Program::Verify => page_folder::each_page(
+            rt,
             Work::Verify,
             folder,
             buf,
@@ -53,42 +75,43 @@ fn do_pages<'a>(
     }
 }
 
-fn say_laid(program: Program, path: &[u8], ready: Ready, laid: Laid) {
+fn say_laid(rt: &impl Print, program: Program, path: &[u8], ready: Ready, laid: Laid) {
     match program {
-        Program::Pack => placing::say_places(laid.layout),
+        Program::Pack => placing::say_places(rt, laid.layout),
         Program::Verify => {}
     }
     let stop = laid.stop;
-    placing::say_stop(path, ready.job, stop);
+    placing::say_stop(rt, path, ready.job, stop);
 }
 
-fn say_images_and_pages(l: Layout) {
-    telling::say(b"images: ");
-    telling::say_number(l.count as u64);
-    telling::say(b", pages: ");
-    telling::say_number(page_folder::count_pages(l) as u64);
-    telling::say(b"\n");
+fn say_images_and_pages(rt: &impl Print, l: Layout) {
+    telling::say(rt, b"images: ");
+    telling::say_number(rt, l.count as u64);
+    telling::say(rt, b", pages: ");
+    telling::say_number(rt, page_folder::count_pages(l) as u64);
+    telling::say(rt, b"\n");
 }
 
-fn say_good(program: Program, path: &[u8], l: Layout) {
-    telling::say(path);
+fn say_good(rt: &impl Print, program: Program, path: &[u8], l: Layout) {
+    telling::say(rt, path);
     match program {
-        Program::Pack => telling::say(b": packed, "),
-        Program::Verify => telling::say(b": verified, "),
+        Program::Pack => telling::say(rt, b": packed, "),
+        Program::Verify => telling::say(rt, b": verified, "),
     }
-    say_images_and_pages(l);
+    say_images_and_pages(rt, l);
 }
 
-fn say_bad(program: Program, path: &[u8]) {
-    telling::say(path);
+fn say_bad(rt: &impl Print, program: Program, path: &[u8]) {
+    telling::say(rt, path);
     match program {
-        Program::Pack => telling::say(b": NOT PACKED\n"),
-        Program::Verify => telling::say(b": NOT VERIFIED\n"),
+        Program::Pack => telling::say(rt, b": NOT PACKED\n"),
+        Program::Verify => telling::say(rt, b": NOT VERIFIED\n"),
     }
 }
 
 // A refused image ends it before any page is written.
 fn do_job<'a>(
+    rt: &(impl Files + Print),
     program: Program,
     path: &'a [u8],
     folder: &'a [u8],
@@ -100,12 +123,13 @@ fn do_job<'a>(
     let job = ready.job;
     let background = job.background;
     let laid = laying::lay_out(symbols, wording, job);
-    say_laid(program, path, ready, laid);
+    say_laid(rt, program, path, ready, laid);
     let stop = laid.stop;
     if !laying::goes_on(stop) {
         return false;
     }
     let good = do_pages(
+        rt,
         program,
         folder,
         buf,
@@ -115,12 +139,13 @@ fn do_job<'a>(
         background,
     );
     if good {
-        say_good(program, path, laid.layout);
+        say_good(rt, program, path, laid.layout);
     }
     good
 }
 
 fn prepare_and_do<'a>(
+    rt: &(impl Files + Print),
     program: Program,
     job_name: &'a [u8],
     symbols_name: &'a [u8],
@@ -131,12 +156,21 @@ fn prepare_and_do<'a>(
     symbols: &mut [u8],
     wording: &mut [u8],
 ) {
-    let ready = preparing::prepare(job_name, symbols_name, wording_name, text, symbols, wording);
+    let ready = preparing::prepare(
+        rt,
+        job_name,
+        symbols_name,
+        wording_name,
+        text,
+        symbols,
+        wording,
+    );
     if !ready.good {
-        say_bad(program, job_name);
+        say_bad(rt, program, job_name);
         return;
     }
     let good = do_job(
+        rt,
         program,
         job_name,
         folder,
@@ -146,12 +180,13 @@ fn prepare_and_do<'a>(
         ready,
     );
     if !good {
-        say_bad(program, job_name);
+        say_bad(rt, program, job_name);
     }
 }
 
 // The job whose four names begin at argument i: the job, the two stores, the folder.
 fn run_job(
+    rt: &(impl Files + Env + Print),
     program: Program,
     i: usize,
     buf: &mut [u8],
@@ -161,15 +196,16 @@ fn run_job(
 )
     requires { i + 3 ≤ 18446744073709551615 }
 {
-    let mut job_name = io::buffer();
-    let mut symbols_name = io::buffer();
-    let mut wording_name = io::buffer();
-    let mut folder_name = io::buffer();
-    let a = os::arg(i, &mut job_name);
-    let b = os::arg(i + 1, &mut symbols_name);
-    let c = os::arg(i + 2, &mut wording_name);
-    let d = os::arg(i + 3, &mut folder_name);
+    let mut job_name = [0u8; 4096];
+    let mut symbols_name = [0u8; 4096];
+    let mut wording_name = [0u8; 4096];
+    let mut folder_name = [0u8; 4096];
+    let a = system::argument(rt, i, &mut job_name);
+    let b = system::argument(rt, i + 1, &mut symbols_name);
+    let c = system::argument(rt, i + 2, &mut wording_name);
+    let d = system::argument(rt, i + 3, &mut folder_name);
     prepare_and_do(
+        rt,
         program,
         &job_name[..a],
         &symbols_name[..b],
@@ -184,6 +220,7 @@ fn run_job(
 
 // `count` is how many arguments there are, with the program's own name.
 fn run_jobs(
+    rt: &(impl Files + Env + Print),
     program: Program,
     count: usize,
     buf: &mut [u8],
@@ -196,17 +233,19 @@ fn run_jobs(
     let last = count - 4;
     let mut i: usize = 1;
     while i <= last {
-        run_job(program, i, buf, text, symbols, wording);
+        run_job(rt, program, i, buf, text, symbols, wording);
         i += 4;
     }
 }
 
-fn say_usage(program: Program) {
+fn say_usage(rt: &impl Print, program: Program) {
     match program {
         Program::Pack => telling::say(
+            rt,
             b"pack JOB SYMBOLS WORDING FOLDER, as often as there are jobs; writes FOLDER/page-0.rgba and so on\n",
         ),
         Program::Verify => telling::say(
+            rt,
             b"verify JOB SYMBOLS WORDING FOLDER, as often as there are jobs; checks FOLDER/page-0.rgba and so on\n",
         ),
     }
@@ -220,21 +259,22 @@ fn store_room() -> [u8; 1048576]
 }
 
 // A job's text has at most 64 KiB.
-pub fn run(program: Program) {
+pub fn run(rt: &(impl Files + Env + Print), program: Program) {
     let mut symbols = store_room();
     let mut wording = store_room();
-    let mut text = io::large_buffer();
-    let mut buf = io::large_buffer();
-    let count = os::arg_count();
+    let mut text = [0u8; 65536];
+    let mut buf = [0u8; 65536];
+    let count = system::argument_count(rt);
     if count < 5 {
-        say_usage(program);
+        say_usage(rt, program);
         return;
     }
     if count % 4 != 1 {
-        say_usage(program);
+        say_usage(rt, program);
         return;
     }
     run_jobs(
+        rt,
         program,
         count,
         &mut buf,

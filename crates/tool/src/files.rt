@@ -1,6 +1,10 @@
 // Files: one read whole, and the name of a page's file.
 ghost use Rattle.std.specs.Prelude.{◌≤◌, length};
-ghost use Rattle.io.specs.Counts.{IsPrefixLen};
+ghost use Rattle.tool.specs.Counts.{IsPrefixLen};
+
+use crate::system;
+use std::io::Read;
+use std::rt::Files;
 
 #[derive(Clone, Copy)]
 pub enum Found {
@@ -18,9 +22,12 @@ pub struct Reading {
 }
 
 // Whether the file ends here: 0 where it does, below 0 where it cannot be read, above where it goes on.
-pub fn rest(fd: i32) -> isize {
+pub fn rest<F: Read>(file: &mut F) -> isize {
     let mut one = [0u8; 1];
-    libc::read(fd, &mut one)
+    match file.read(&mut one) {
+        Ok(n) => n as isize,
+        Err(_) => -1,
+    }
 }
 
 fn found_after(rest: isize) -> Found {
@@ -34,19 +41,17 @@ fn found_after(rest: isize) -> Found {
 }
 
 // The whole of a file, in the front of the buffer.
-pub fn read_file(path: &[u8], buf: &mut [u8]) -> Reading
+pub fn read_file(rt: &impl Files, path: &[u8], buf: &mut [u8]) -> Reading
     ensures { IsPrefixLen result.length buf.new }
 {
-    let fd = os::open_read(path);
-    if fd < 0 {
+    let Some(mut file) = system::open_read(rt, path) else {
         return Reading {
             found: Found::Missing,
             length: 0,
         };
-    }
-    let n = io::read_full(fd, buf);
-    let found = found_after(rest(fd));
-    libc::close(fd);
+    };
+    let n = system::read_full(&mut file, buf);
+    let found = found_after(rest(&mut file));
     Reading { found, length: n }
 }
 

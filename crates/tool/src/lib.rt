@@ -8,4 +8,5 @@ pub mod page_files;
 pub mod page_folder;
 pub mod placing;
 pub mod preparing;
+mod system;
 pub mod telling;

@@ -1,12 +1,13 @@
 // All pages of a job that is laid out, on disk. They are written and read back under fresh names, and only then put in the place of older ones.
 ghost use Rattle.std.specs.Prelude.{◌≤◌};
 
-use crate::{bands, files, page_files, telling};
+use crate::{bands, files, page_files, system, telling};
 use geometry::rect::Size;
 use paint::background::Background;
 use records::frame::Page;
 use records::layout as layouts;
 use records::layout::{Layout, Sized};
+use std::rt::Files;
 
 #[derive(Clone, Copy)]
 pub enum Work {
@@ -21,6 +22,7 @@ pub enum Work {
 }
 
 fn write_fresh<'a>(
+    rt: &(impl Files + Print),
     folder: &'a [u8],
     buf: &mut [u8],
     l: Layout,
@@ -30,37 +32,48 @@ fn write_fresh<'a>(
     page: Page,
     size: Size,
 ) -> bool {
-    let mut name = io::buffer();
+    let mut name = [0u8; 4096];
     let k = files::page_path(folder, page.0, b".rgba.new", &mut name);
-    let f = page_files::write_file(&name[..k], buf, l, symbols, wording, page, background, size);
-    page_files::say_page(page, size, &name[..k]);
+    let f = page_files::write_file(
+        rt,
+        &name[..k],
+        buf,
+        l,
+        symbols,
+        wording,
+        page,
+        background,
+        size,
+    );
+    page_files::say_page(rt, page, size, &name[..k]);
     if bands::is_same(f) {
-        telling::say(b"written and read back, ");
+        telling::say(rt, b"written and read back, ");
     }
-    page_files::say_filed(f);
+    page_files::say_filed(rt, f);
     bands::is_same(f)
 }
 
-fn place(folder: &[u8], page: Page) -> bool {
-    let mut fresh = io::buffer();
-    let mut own = io::buffer();
+fn place(rt: &(impl Files + Print), folder: &[u8], page: Page) -> bool {
+    let mut fresh = [0u8; 4096];
+    let mut own = [0u8; 4096];
     let a = files::page_path(folder, page.0, b".rgba.new", &mut fresh);
     let b = files::page_path(folder, page.0, b".rgba", &mut own);
-    let moved = os::rename(&fresh[..a], &own[..b]) == 0;
+    let moved = system::rename(rt, &fresh[..a], &own[..b]);
     if !moved {
-        telling::say(&own[..b]);
-        telling::say(b": cannot be put in its place\n");
+        telling::say(rt, &own[..b]);
+        telling::say(rt, b": cannot be put in its place\n");
     }
     moved
 }
 
-fn remove(folder: &[u8], page: Page, ending: &[u8]) {
-    let mut name = io::buffer();
+fn remove(rt: &impl Files, folder: &[u8], page: Page, ending: &[u8]) {
+    let mut name = [0u8; 4096];
     let k = files::page_path(folder, page.0, ending, &mut name);
-    os::unlink(&name[..k]);
+    system::remove(rt, &name[..k]);
 }
 
 fn verify<'a>(
+    rt: &(impl Files + Print),
     folder: &'a [u8],
     buf: &mut [u8],
     l: Layout,
@@ -70,42 +83,51 @@ fn verify<'a>(
     page: Page,
     size: Size,
 ) -> bool {
-    let mut name = io::buffer();
+    let mut name = [0u8; 4096];
     let k = files::page_path(folder, page.0, b".rgba", &mut name);
-    let f = page_files::check_file(&name[..k], buf, l, symbols, wording, page, background, size);
-    page_files::say_page(page, size, &name[..k]);
-    page_files::say_filed(f);
+    let f = page_files::check_file(
+        rt,
+        &name[..k],
+        buf,
+        l,
+        symbols,
+        wording,
+        page,
+        background,
+        size,
+    );
+    page_files::say_page(rt, page, size, &name[..k]);
+    page_files::say_filed(rt, f);
     bands::is_same(f)
 }
 
 // A page that the job has not must have no file: nobody checked what such a file shows.
-fn verify_none(folder: &[u8], page: Page) -> bool {
-    let mut name = io::buffer();
+fn verify_none(rt: &(impl Files + Print), folder: &[u8], page: Page) -> bool {
+    let mut name = [0u8; 4096];
     let k = files::page_path(folder, page.0, b".rgba", &mut name);
-    let fd = os::open_read(&name[..k]);
-    if fd < 0 {
+    if system::open_read(rt, &name[..k]).is_none() {
         return true;
     }
-    libc::close(fd);
-    telling::say(&name[..k]);
-    telling::say(b": the job has no such page\n");
+    telling::say(rt, &name[..k]);
+    telling::say(rt, b": the job has no such page\n");
     false
 }
 
 // The page is not the job's.
-fn without_page(work: Work, folder: &[u8], page: Page) -> bool {
+fn without_page(rt: &(impl Files + Print), work: Work, folder: &[u8], page: Page) -> bool {
     match work {
         Work::Write => true,
         Work::Drop => true,
         Work::Place => {
-            remove(folder, page, b".rgba");
+            remove(rt, folder, page, b".rgba");
             true
         }
-        Work::Verify => verify_none(folder, page),
+        Work::Verify => verify_none(rt, folder, page),
     }
 }
 
 fn with_page<'a>(
+    rt: &(impl Files + Print),
     work: Work,
     folder: &'a [u8],
     buf: &mut [u8],
@@ -117,17 +139,18 @@ fn with_page<'a>(
     size: Size,
 ) -> bool {
     match work {
-        Work::Write => write_fresh(folder, buf, l, symbols, wording, background, page, size),
-        Work::Place => place(folder, page),
+        Work::Write => write_fresh(rt, folder, buf, l, symbols, wording, background, page, size),
+        Work::Place => place(rt, folder, page),
         Work::Drop => {
-            remove(folder, page, b".rgba.new");
+            remove(rt, folder, page, b".rgba.new");
             true
         }
-        Work::Verify => verify(folder, buf, l, symbols, wording, background, page, size),
+        Work::Verify => verify(rt, folder, buf, l, symbols, wording, background, page, size),
     }
 }
 
 fn do_page<'a>(
+    rt: &(impl Files + Print),
     work: Work,
     folder: &'a [u8],
     buf: &mut [u8],
@@ -139,14 +162,15 @@ fn do_page<'a>(
 ) -> bool {
     match layouts::page_size(l, page) {
         Sized::Is(size) => with_page(
-            work, folder, buf, l, symbols, wording, background, page, size,
+            rt, work, folder, buf, l, symbols, wording, background, page, size,
         ),
-        Sized::Refused(_) => without_page(work, folder, page),
+        Sized::Refused(_) => without_page(rt, work, folder, page),
     }
 }
 
 // Whether all went well. A layout has at most 8 pages.
 pub fn each_page<'a>(
+    rt: &(impl Files + Print),
     work: Work,
     folder: &'a [u8],
     buf: &mut [u8],
@@ -158,7 +182,17 @@ pub fn each_page<'a>(
     let mut good = true;
     let mut n: u32 = 0;
     while n < 8 {
-        let went = do_page(work, folder, buf, l, symbols, wording, background, Page(n));
+        let went = do_page(
+            rt,
+            work,
+            folder,
+            buf,
+            l,
+            symbols,
+            wording,
+            background,
+            Page(n),
+        );
         good = good & went;
         n += 1;
     }
