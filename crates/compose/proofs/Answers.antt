@@ -13,7 +13,7 @@ use Rattle.geometry.proofs.Words.{or_no_left, or_no_right}
 use Rattle.geometry.specs.declared.rect.Size.{Size}
 use Rattle.art.specs.Stores.{Stores}
 use Rattle.art.specs.declared.memory_rgba8_texture.Pixel.{Pixel}
-use Rattle.records.specs.Refusals.{number_of, first_of}
+use Rattle.records.specs.Refusals.{number_of, first_refusal}
 use Rattle.records.specs.Layouts.{standing, well_formed, page_count, size_of_page}
 use Rattle.records.specs.Operations.{no_such_page}
 use Rattle.records.specs.declared.frame.Page.{Page}
@@ -145,7 +145,7 @@ module _ (l : Layout) (s : Stores) (p : Page) (g : Background) (first n : ℕ) (
 -- ## the row itself
 
 module _ (l : Layout) (s : Stores) (p : Page) (first n len : ℕ) where
-  pub band-row : band_refusal l s p first n len ≡ first_of (band_row l s p first n len)
+  pub band-row : band_refusal l s p first n len ≡ first_refusal (band_row l s p first n len)
   unfolding band_refusal
   band-row = refl
 

@@ -9,7 +9,7 @@ use mathlib.Core.Logic.{◌↔◌}
 use mathlib.Core.Option.{none, some}
 use lib.ListN.{length}
 use Rattle.art.specs.Stores.{Stores}
-use Rattle.records.specs.Refusals.{number_of, first_of, row_numbers}
+use Rattle.records.specs.Refusals.{number_of, first_refusal, row_numbers}
 use Rattle.records.specs.Layouts.{standing, well_formed, size_of_page}
 use Rattle.records.specs.Operations.{no_such_page}
 use Rattle.records.specs.declared.frame.Page.{Page}
@@ -35,7 +35,7 @@ use Rattle.compose.proofs.Agreeing.{same_shows, shows_same, FirstOff, differs-of
 -- ## "compose rows, check rows: 2 11 12 13 14 5"
 
 pub band-order : (l : Layout) (s : Stores) (p : Page) (first n len : ℕ)
-    → (band_refusal l s p first n len ≡ first_of (band_row l s p first n len)) × (row_numbers (band_row l s p first n len) ≡ 2 ∷ 11 ∷ 12 ∷ 13 ∷ 14 ∷ 5 ∷ [])
+    → (band_refusal l s p first n len ≡ first_refusal (band_row l s p first n len)) × (row_numbers (band_row l s p first n len) ≡ 2 ∷ 11 ∷ 12 ∷ 13 ∷ 14 ∷ 5 ∷ [])
 band-order l s p first n len = (band-row l s p first n len, refl)
 
 -- ## "Each row's checks run left to right; the first that holds is answered. Each is given exactly when its condition holds."

@@ -4,7 +4,7 @@ use Rattle.std.specs.Prelude.{ℕ, ◌+◌, ◌*◌, Bool, not, ◌||◌, List, 
 use Rattle.std.proofs.Math.Option.{Option, none, some}
 use Rattle.geometry.specs.declared.rect.Size.{Size}
 use Rattle.art.specs.Stores.{Stores}
-use Rattle.records.specs.Refusals.{number_of, Row, first_of}
+use Rattle.records.specs.Refusals.{number_of, Row, first_refusal}
 use Rattle.records.specs.Layouts.{standing, well_formed, size_of_page}
 use Rattle.records.specs.Operations.{no_such_page}
 use Rattle.records.specs.declared.frame.Page.{Page}
@@ -42,7 +42,7 @@ band_row l s p first n len =
     ∷ []
 
 unfoldable pub band_refusal : Layout → Stores → Page → ℕ → ℕ → ℕ → Option Refusal
-band_refusal l s p first n len = first_of (band_row l s p first n len)
+band_refusal l s p first n len = first_refusal (band_row l s p first n len)
 
 -- ## compose rows
 

@@ -10,7 +10,7 @@ use lib.Ieee.{Float}
 use Rattle.geometry.specs.Words.{any, or_else}
 use Rattle.geometry.specs.declared.rect.Rect.{Rect}
 use Rattle.geometry.specs.declared.rect.Size.{Size}
-use Rattle.records.specs.Refusals.{first_of}
+use Rattle.records.specs.Refusals.{first_refusal}
 use Rattle.records.specs.Settings.{blank_record}
 use Rattle.records.specs.Layouts.{standing, well_formed, has_key, record_of, key_place, size_of_page, record_named}
 use Rattle.records.specs.declared.frame.Key.{Key}
@@ -42,11 +42,11 @@ module _ (f : Rect) (s : Size) (i : Float) where
 
 module _ (f : Rect) (s : Size) where
   pub ask-pixels : requested AskPixels f s ≡ Pixels f
-  unfolding first_of
+  unfolding first_refusal
   ask-pixels = refl
 
   pub ask_edges : requested Edges f s ≡ texel_answer f s nought
-  unfolding first_of
+  unfolding first_refusal
   ask_edges = refl
 
   pub ask-inset : (i : Float) → between i ≡ true → requested (Inset i) f s ≡ texel_answer f s i

@@ -7,7 +7,7 @@ use Rattle.std.specs.Float.Ieee.{add, sub, div, le, of_int, to_bits}
 use Rattle.geometry.specs.Words.{any}
 use Rattle.geometry.specs.declared.rect.Rect.{Rect}
 use Rattle.geometry.specs.declared.rect.Size.{Size}
-use Rattle.records.specs.Refusals.{number_of, Row, first_of}
+use Rattle.records.specs.Refusals.{number_of, Row, first_refusal}
 use Rattle.records.specs.Layouts.{standing, well_formed, has_key, size_of_page, record_named}
 use Rattle.records.specs.declared.frame.Key.{Key}
 use Rattle.records.specs.declared.layout.Layout.{Layout}
@@ -82,7 +82,7 @@ locate_row l k q =
     ∷ []
 
 unfoldable pub locate_refusal : Layout → Key → Request → Option Refusal
-locate_refusal l k q = first_of (locate_row l k q)
+locate_refusal l k q = first_refusal (locate_row l k q)
 
 -- pixels answer the frame; the others four f32 numbers, with i = 0 at edges
 abbrev pub wanted : Request → Rect → Size → Located

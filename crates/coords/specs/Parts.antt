@@ -3,7 +3,7 @@
 use Rattle.std.specs.Prelude.{◌+◌, ◌<◌, [], ◌∷◌, Float}
 use Rattle.geometry.specs.declared.rect.Rect.{Rect}
 use Rattle.geometry.specs.declared.rect.Size.{Size}
-use Rattle.records.specs.Refusals.{first_of}
+use Rattle.records.specs.Refusals.{first_refusal}
 use Rattle.records.specs.declared.refusal.Refusal.TheVariants.{BadInset, PastPage}
 use Rattle.coords.specs.Coordinates.{corners, bad_inset, past_edge, out_of_page, wanted, locate_answer}
 use Rattle.coords.specs.declared.locate.Request.{Request}
@@ -19,8 +19,8 @@ pub record Countable (f : Rect) (s : Size) : Type 0 where
 
 -- the row past 2, 15 and 17, and the four numbers
 abbrev pub texel_answer : Rect → Size → Float → Located
-texel_answer f s i = locate_answer (Texels (corners f s i)) (first_of ((past_edge f s, PastPage) ∷ []))
+texel_answer f s i = locate_answer (Texels (corners f s i)) (first_refusal ((past_edge f s, PastPage) ∷ []))
 
 -- the row past 2 and 15, and what is wanted
 abbrev pub requested : Request → Rect → Size → Located
-requested q f s = locate_answer (wanted q f s) (first_of ((bad_inset q, BadInset) ∷ (out_of_page q f s, PastPage) ∷ []))
+requested q f s = locate_answer (wanted q f s) (first_refusal ((bad_inset q, BadInset) ∷ (out_of_page q f s, PastPage) ∷ []))

@@ -5,7 +5,7 @@ use Rattle.geometry.specs.Rects.{on_span, at_end, holds_point, on_outline}
 use Rattle.geometry.specs.Placing.{height, is_start, starts_from, segment, top, lying, cell_at, spot_at, inside, orientations, fitting_at, candidates_from, rank, better, best_of, spot_for}
 use Rattle.art.specs.Stores.{bytes_of, runs_past, place_of, pixel_from, pixel_in, upright_pixel, turned_point, turned_pixel}
 use Rattle.art.specs.Trimming.{visible, column_visible, row_visible, all_clear, first_seen, past_seen, smallest_box, whole_box, trim_box}
-use Rattle.records.specs.Refusals.{first_of}
+use Rattle.records.specs.Refusals.{first_refusal}
 use Rattle.records.specs.Settings.{in_bounds, blank_config, blank_record, empty_layout}
 use Rattle.records.specs.Records.{all_zero, is_blank, size_of, whole_of, box_of, image_of, lies_in, box_inside, record_well_formed}
 use Rattle.records.specs.Layouts.{standing, unused, well_formed, has_key, record_of, record_named, on_page, page_count, ends_of, size_of_page}
@@ -37,7 +37,7 @@ unfolding bytes_of runs_past place_of pixel_from pixel_in upright_pixel turned_p
 art = tt
 
 records : Unit {0}
-unfolding first_of in_bounds blank_config blank_record empty_layout all_zero is_blank size_of whole_of box_of image_of lies_in box_inside record_well_formed standing unused well_formed has_key record_of record_named on_page page_count ends_of size_of_page open_row open_refusal opened no_such_page size_row size_refusal page_sized bit settings rect source made record_numbers config_numbers layout_numbers
+unfolding first_refusal in_bounds blank_config blank_record empty_layout all_zero is_blank size_of whole_of box_of image_of lies_in box_inside record_well_formed standing unused well_formed has_key record_of record_named on_page page_count ends_of size_of_page open_row open_refusal opened no_such_page size_row size_refusal page_sized bit settings rect source made record_numbers config_numbers layout_numbers
 records = tt
 
 rules : Unit {0}

@@ -10,7 +10,7 @@ use Rattle.geometry.specs.Placing.{height, spot_for, is_found}
 use Rattle.geometry.specs.declared.rect.Size.{Size}
 use Rattle.art.specs.Stores.{Stores}
 use Rattle.art.specs.declared.memory_rgba8_texture.Image.{Image}
-use Rattle.records.specs.Refusals.{first_of}
+use Rattle.records.specs.Refusals.{first_refusal}
 use Rattle.records.specs.Settings.{blank_record}
 use Rattle.records.specs.Layouts.{standing, well_formed, page_count}
 use Rattle.records.specs.Operations.{no_such_page}
@@ -46,7 +46,7 @@ module _ (l : Layout) (p : Page) (s : Size) where
   ask_unfaithful w f = ap (ask_answer (fits_page l p s)) (sym (skipped _ NotWellFormed _ (ap not w) ∙ hit _ NotFaithful _ (ap not f)))
 
   pub ask-rest : (r : Asked) → well_formed l ≡ true → faithful l ≡ true
-      → r ≡ ask_answer (is_found (spot_on l.config (cells_on l.config (standing l) p.0) s)) (first_of (ask_rest (standing l) p s)) → r ≡ asked l p s
+      → r ≡ ask_answer (is_found (spot_on l.config (cells_on l.config (standing l) p.0) s)) (first_refusal (ask_rest (standing l) p s)) → r ≡ asked l p s
   unfolding asked ask_refusal ask_rest no_such_page fits_page
   ask-rest r w f e = e ∙ ap (ask_answer (fits_page l p s)) (sym (skipped _ NotWellFormed _ (ap not w) ∙ skipped _ NotFaithful _ (ap not f)))
 
@@ -60,7 +60,7 @@ module _ (l : Layout) (s : Stores) (k : Key) (i : Image) where
   offer_unfaithful w f = refused l _ _ NotFaithful (skipped _ NotWellFormed _ (ap not w) ∙ hit _ NotFaithful _ (ap not f))
 
   pub offer-rest : (r : Offering) → well_formed l ≡ true → faithful l ≡ true
-      → r ≡ offer_answer l (placed l.config (standing l) (art_for l.config s k i)) (first_of (offer_rest l s k i)) → r ≡ offered l s k i
+      → r ≡ offer_answer l (placed l.config (standing l) (art_for l.config s k i)) (first_refusal (offer_rest l s k i)) → r ≡ offered l s k i
   unfolding offered offer_refusal offer_rest room_rest
   offer-rest r w f e = e ∙ ap (offer_answer l (placed l.config (standing l) (art_for l.config s k i))) (sym (skipped _ NotWellFormed _ (ap not w) ∙ skipped _ NotFaithful _ (ap not f)))
 
@@ -99,20 +99,20 @@ ask-found c rs p s area cell b ea ec e =
     ∙ ap (λ (z : Size). is_found (spot_for (height (cells_on c rs p)) area c.rotation z)) (sym ec) ∙ sym e
 
 module _ (rs : List Record) (p : Page) (s : Size) (b : Bool) where
-  pub ask-size : bad_size s.w s.h ≡ true → AskRefused BadSize ≡ ask_answer b (first_of (ask_rest rs p s))
+  pub ask-size : bad_size s.w s.h ≡ true → AskRefused BadSize ≡ ask_answer b (first_refusal (ask_rest rs p s))
   unfolding ask_rest
   ask-size e = ap (ask_answer b) (sym (hit _ BadSize _ e))
 
-  pub ask-page : bad_size s.w s.h ≡ false → page_count rs ≤ p.0 → AskRefused NoSuchPage ≡ ask_answer b (first_of (ask_rest rs p s))
+  pub ask-page : bad_size s.w s.h ≡ false → page_count rs ≤ p.0 → AskRefused NoSuchPage ≡ ask_answer b (first_refusal (ask_rest rs p s))
   unfolding ask_rest
   ask-page e h = ap (ask_answer b) (sym (skipped _ BadSize _ e ∙ hit _ NoSuchPage _ (le-leb _ _ h)))
 
-  passes : bad_size s.w s.h ≡ false → p.0 < page_count rs → none ≡ first_of (ask_rest rs p s)
+  passes : bad_size s.w s.h ≡ false → p.0 < page_count rs → none ≡ first_refusal (ask_rest rs p s)
   unfolding ask_rest
   passes e h = sym (skipped _ BadSize _ e ∙ skipped _ NoSuchPage _ (lt-leb _ _ h) ∙ none_left)
 
-  pub ask_yes : bad_size s.w s.h ≡ false → p.0 < page_count rs → b ≡ true → Yes ≡ ask_answer b (first_of (ask_rest rs p s))
+  pub ask_yes : bad_size s.w s.h ≡ false → p.0 < page_count rs → b ≡ true → Yes ≡ ask_answer b (first_refusal (ask_rest rs p s))
   ask_yes e h t = ap (λ (z : Bool). ask_answer z none) (sym t) ∙ ap (ask_answer b) (passes e h)
 
-  pub ask_no : bad_size s.w s.h ≡ false → p.0 < page_count rs → b ≡ false → No ≡ ask_answer b (first_of (ask_rest rs p s))
+  pub ask_no : bad_size s.w s.h ≡ false → p.0 < page_count rs → b ≡ false → No ≡ ask_answer b (first_refusal (ask_rest rs p s))
   ask_no e h t = ap (λ (z : Bool). ask_answer z none) (sym t) ∙ ap (ask_answer b) (passes e h)

@@ -2,7 +2,7 @@
 -- Assumes nothing.
 use Rattle.std.specs.Prelude.{Bool, List, [], ◌∷◌, leb, eqb}
 use Rattle.geometry.specs.declared.rect.Size.{Size}
-use Rattle.records.specs.Refusals.{first_of}
+use Rattle.records.specs.Refusals.{first_refusal}
 use Rattle.records.specs.Layouts.{page_count}
 use Rattle.records.specs.declared.frame.Page.{Page}
 use Rattle.records.specs.declared.frame.Record.{Record}
@@ -18,4 +18,4 @@ ask_rest rs p s = (bad_size s.w s.h, BadSize) ∷ (leb (page_count rs) p.0, NoSu
 
 -- what a withdrawal answers past 2 and 3
 unfoldable pub latest_gone : Layout → Withdrawing
-latest_gone l = withdraw_answer l (first_of ((eqb l.count 0, NothingStands) ∷ []))
+latest_gone l = withdraw_answer l (first_refusal ((eqb l.count 0, NothingStands) ∷ []))

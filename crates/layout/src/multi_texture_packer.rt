@@ -4,7 +4,7 @@ ghost use Rattle.std.specs.Prelude.{◌≡◌, true, List, ◌≤◌, ◌<◌};
 ghost use Rattle.geometry.specs.Placing.{is_found};
 ghost use Rattle.art.specs.Stores.{lent};
 ghost use Rattle.records.specs.Settings.{in_bounds};
-ghost use Rattle.records.specs.Refusals.{first_of};
+ghost use Rattle.records.specs.Refusals.{first_refusal};
 ghost use Rattle.records.specs.declared.frame.Record.{Record};
 ghost use Rattle.rules.specs.Placing.{spot_on, cells_on};
 ghost use Rattle.rules.specs.Operations.{asked, ask_answer, asked_numbers, offered, offered_numbers, withdrawn, withdrawn_numbers, without_latest};
@@ -35,7 +35,7 @@ fn ask_on<'a>(
     requires c_value { (in_bounds c ≡ true) × (pages ≤ 8) }
     requires skies { (rs : List Record) × Skies c rs pages xs.now ys.now ns.now }
     ensures { (rs : List Record) → Skies c rs pages xs.now ys.now ns.now →
-        result ≡ ask_answer (is_found (spot_on c (cells_on c rs page.0) size)) (first_of (ask_rest rs page size)) }
+        result ≡ ask_answer (is_found (spot_on c (cells_on c rs page.0) size)) (first_refusal (ask_rest rs page size)) }
 {
     if offers::bad_size(size.w, size.h) {
         return Asked::Refused(Refusal::BadSize);

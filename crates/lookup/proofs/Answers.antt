@@ -14,7 +14,7 @@ use Rattle.art.specs.declared.memory_rgba8_texture.Pixel.{Pixel}
 use Rattle.records.specs.Records.{image_of}
 use Rattle.records.specs.Layouts.{standing, well_formed, page_count, has_key, record_named}
 use Rattle.records.specs.Operations.{no_such_page}
-use Rattle.records.specs.Refusals.{number_of, first_of}
+use Rattle.records.specs.Refusals.{number_of, first_refusal}
 use Rattle.records.specs.declared.frame.Key.{Key}
 use Rattle.records.specs.declared.frame.Page.{Page}
 use Rattle.records.specs.declared.frame.Record.{Record}
@@ -44,12 +44,12 @@ module _ (l : Layout) (s : Stores) (p : Page) where
   look_no_page e h = skipped (not (well_formed l)) NotWellFormed _ (ap not e) ∙ hit _ NoSuchPage _ (le-leb (page_count (standing l)) p.0 h)
 
   asked_two : well_formed l ≡ true → p.0 < page_count (standing l) → (b : Bool) → b ≡ page_past s p (standing l)
-      → look_refusal l s p ≡ first_of ((b, PastStore) ∷ [])
+      → look_refusal l s p ≡ first_refusal ((b, PastStore) ∷ [])
   unfolding look_refusal no_such_page
   asked_two e h b q =
       skipped (not (well_formed l)) NotWellFormed _ (ap not e)
       ∙ skipped _ NoSuchPage _ (lt-leb (page_count (standing l)) p.0 h)
-      ∙ ap (λ (z : Bool). first_of ((z, PastStore) ∷ [])) (sym q)
+      ∙ ap (λ (z : Bool). first_refusal ((z, PastStore) ∷ [])) (sym q)
 
   pub look_past : well_formed l ≡ true → p.0 < page_count (standing l) → page_past s p (standing l) ≡ true → look_refusal l s p ≡ some PastStore
   look_past e h q = asked_two e h true (sym q) ∙ hit true PastStore [] refl
@@ -57,7 +57,7 @@ module _ (l : Layout) (s : Stores) (p : Page) where
   pub look_passes : well_formed l ≡ true → p.0 < page_count (standing l) → page_past s p (standing l) ≡ false → look_refusal l s p ≡ none
   look_passes e h q = asked_two e h false (sym q) ∙ skipped false PastStore [] refl ∙ none_left
 
-  pub look_row_lem : look_refusal l s p ≡ first_of (look_row l s p)
+  pub look_row_lem : look_refusal l s p ≡ first_refusal (look_row l s p)
   unfolding look_refusal
   look_row_lem = refl
 
@@ -126,12 +126,12 @@ module _ (l : Layout) (s : Stores) (k : Key) (y : ℕ) where
 
   -- 2 and 15 are passed, and r is the record named: 13 and 5 are asked of it
   module _ (formed : well_formed l ≡ true) (stands : any (has_key k) (standing l) ≡ true) (r : Record) (is : record_named l k ≡ r) where
-    passed_two : read_refusal l s k y ≡ first_of ((leb r.source.h y, BadRows) ∷ (runs_past s (image_of r), PastStore) ∷ [])
+    passed_two : read_refusal l s k y ≡ first_refusal ((leb r.source.h y, BadRows) ∷ (runs_past s (image_of r), PastStore) ∷ [])
     unfolding read_refusal
     passed_two =
         skipped (not (well_formed l)) NotWellFormed _ (ap not formed)
         ∙ skipped _ NoSuchKey _ (ap not stands)
-        ∙ ap (λ (q : Record). first_of ((leb q.source.h y, BadRows) ∷ (runs_past s (image_of q), PastStore) ∷ [])) is
+        ∙ ap (λ (q : Record). first_refusal ((leb q.source.h y, BadRows) ∷ (runs_past s (image_of q), PastStore) ∷ [])) is
 
     pub read_no_row : r.source.h ≤ y → read_refusal l s k y ≡ some BadRows
     read_no_row h = passed_two ∙ hit _ BadRows _ (le-leb r.source.h y h)
@@ -167,7 +167,7 @@ module _ (l : Layout) (s : Stores) (k : Key) (y : ℕ) where
       go none q = refl
       go (some n) q = let z : ◌≡◌ {A = ℕ} 0 1 = cc in absurd (omega arith)
 
-  pub read-row : read_refusal l s k y ≡ first_of (read_row l s k y)
+  pub read-row : read_refusal l s k y ≡ first_refusal (read_row l s k y)
   unfolding read_refusal
   read-row = refl
 

@@ -19,7 +19,7 @@ use Rattle.geometry.specs.declared.spot.Turn.TheVariants.{Upright, Turned}
 use Rattle.geometry.proofs.Words.{both}
 use Rattle.art.specs.Stores.{Stores, lent, runs_past, pixel_from, pixel_in}
 use Rattle.art.specs.declared.memory_rgba8_texture.Pixel.{Pixel}
-use Rattle.records.specs.Refusals.{number_of, first_of, row_numbers}
+use Rattle.records.specs.Refusals.{number_of, first_refusal, row_numbers}
 use Rattle.records.specs.Settings.{blank_record}
 use Rattle.records.specs.Records.{image_of}
 use Rattle.records.specs.Layouts.{standing, well_formed, has_key, record_named}
@@ -51,11 +51,11 @@ use Rattle.lookup.proofs.Answers.{look_row_lem, look_at, refused-looked, found-l
 
 -- ## "pixel: 2 11 5"; "row of an image: 2 15 13 5"
 
-pub look_order : (l : Layout) (s : Stores) (p : Page) → (look_refusal l s p ≡ first_of (look_row l s p)) × (row_numbers (look_row l s p) ≡ 2 ∷ 11 ∷ 5 ∷ [])
+pub look_order : (l : Layout) (s : Stores) (p : Page) → (look_refusal l s p ≡ first_refusal (look_row l s p)) × (row_numbers (look_row l s p) ≡ 2 ∷ 11 ∷ 5 ∷ [])
 look_order l s p = (look_row_lem l s p, refl)
 
 pub read-order : (l : Layout) (s : Stores) (k : Key) (y : ℕ)
-    → (read_refusal l s k y ≡ first_of (read_row l s k y)) × (row_numbers (read_row l s k y) ≡ 2 ∷ 15 ∷ 13 ∷ 5 ∷ [])
+    → (read_refusal l s k y ≡ first_refusal (read_row l s k y)) × (row_numbers (read_row l s k y) ≡ 2 ∷ 15 ∷ 13 ∷ 5 ∷ [])
 read-order l s k y = (read-row l s k y, refl)
 
 -- ## "Each row's checks run left to right; the first that holds is answered. Each is given exactly when its condition holds."

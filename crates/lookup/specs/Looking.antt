@@ -5,7 +5,7 @@ use Rattle.std.proofs.Math.Option.{Option, none, some}
 use Rattle.geometry.specs.Words.{any}
 use Rattle.art.specs.Stores.{Stores, runs_past}
 use Rattle.art.specs.declared.memory_rgba8_texture.Pixel.{Pixel}
-use Rattle.records.specs.Refusals.{number_of, Row, first_of}
+use Rattle.records.specs.Refusals.{number_of, Row, first_refusal}
 use Rattle.records.specs.Records.{image_of}
 use Rattle.records.specs.Layouts.{standing, well_formed, on_page}
 use Rattle.records.specs.Operations.{no_such_page}
@@ -32,7 +32,7 @@ look_row l s p =
     ∷ []
 
 unfoldable pub look_refusal : Layout → Stores → Page → Option Refusal
-look_refusal l s p = first_of (look_row l s p)
+look_refusal l s p = first_refusal (look_row l s p)
 
 abbrev pub look_answer : Option Pixel → Option Refusal → Looked
 look_answer none none = NoPixel

@@ -7,7 +7,7 @@ use Rattle.geometry.specs.Words.{any}
 use Rattle.art.specs.Stores.{Stores, of_store, bytes_of, runs_past, place_of}
 use Rattle.art.specs.declared.memory_rgba8_texture.Store.{Store}
 use Rattle.art.specs.declared.memory_rgba8_texture.Store.TheVariants.{Symbols}
-use Rattle.records.specs.Refusals.{number_of, Row, first_of}
+use Rattle.records.specs.Refusals.{number_of, Row, first_refusal}
 use Rattle.records.specs.Records.{image_of}
 use Rattle.records.specs.Layouts.{standing, well_formed, has_key, record_named}
 use Rattle.records.specs.declared.frame.Key.{Key}
@@ -29,7 +29,7 @@ read_row l s k y =
     ∷ []
 
 unfoldable pub read_refusal : Layout → Stores → Key → ℕ → Option Refusal
-read_refusal l s k y = first_of (read_row l s k y)
+read_refusal l s k y = first_refusal (read_row l s k y)
 
 -- the sister operation: it is handed back, or why not
 abbrev pub read_answer : Option Refusal → Read

@@ -14,7 +14,7 @@ use Rattle.geometry.proofs.Words.{both, and_no_left, and_no_right}
 use Rattle.art.specs.Stores.{Stores, runs_past}
 use Rattle.art.specs.Trimming.{all_clear, trim_box}
 use Rattle.art.specs.declared.memory_rgba8_texture.Image.{Image}
-use Rattle.records.specs.Refusals.{first_of}
+use Rattle.records.specs.Refusals.{first_refusal}
 use Rattle.records.specs.Records.{size_of}
 use Rattle.records.specs.Layouts.{standing, has_key, page_count}
 use Rattle.records.specs.declared.texture_packer_config.Config.{Config}
@@ -40,25 +40,25 @@ refuse : (l : Layout) (pl : Option Record) (n : Refusal) → record { answer = O
 refuse l none n = refl
 refuse l (some r) n = refl
 
-pub refused : (l : Layout) (pl : Option Record) (row : List (Bool × Refusal)) (n : Refusal) → first_of row ≡ some n
-    → record { answer = OfferRefused n; layout = l } ≡ offer_answer l pl (first_of row)
+pub refused : (l : Layout) (pl : Option Record) (row : List (Bool × Refusal)) (n : Refusal) → first_refusal row ≡ some n
+    → record { answer = OfferRefused n; layout = l } ≡ offer_answer l pl (first_refusal row)
 refused l pl row n e = refuse l pl n ∙ ap (offer_answer l pl) (sym e)
 
 module _ (l : Layout) (a : Art) where
-  pub room_large : (b : Bool) → b ≡ too_large l.config (size_of a.kept) → b ≡ true → first_of (room_rest l a) ≡ some TooLarge
+  pub room_large : (b : Bool) → b ≡ too_large l.config (size_of a.kept) → b ≡ true → first_refusal (room_rest l a) ≡ some TooLarge
   unfolding room_rest
   room_large b e t = hit _ TooLarge _ (sym e ∙ t)
 
   module _ (b : Bool) (e : b ≡ too_large l.config (size_of a.kept)) (f : b ≡ false) where
-    pub room_images : l.config.images ≤ l.count → first_of (room_rest l a) ≡ some ImageLimit
+    pub room_images : l.config.images ≤ l.count → first_refusal (room_rest l a) ≡ some ImageLimit
     unfolding room_rest
     room_images h = skipped _ TooLarge _ (sym e ∙ f) ∙ hit _ ImageLimit _ (le-leb _ _ h)
 
-    pub room_pages : l.count < l.config.images → pages_full l.config (standing l) a.whole ≡ true → first_of (room_rest l a) ≡ some PageLimit
+    pub room_pages : l.count < l.config.images → pages_full l.config (standing l) a.whole ≡ true → first_refusal (room_rest l a) ≡ some PageLimit
     unfolding room_rest
     room_pages h t = skipped _ TooLarge _ (sym e ∙ f) ∙ skipped _ ImageLimit _ (lt-leb _ _ h) ∙ hit _ PageLimit _ t
 
-    pub room-none : l.count < l.config.images → pages_full l.config (standing l) a.whole ≡ false → first_of (room_rest l a) ≡ none
+    pub room-none : l.count < l.config.images → pages_full l.config (standing l) a.whole ≡ false → first_refusal (room_rest l a) ≡ none
     unfolding room_rest
     room-none h t = skipped _ TooLarge _ (sym e ∙ f) ∙ skipped _ ImageLimit _ (lt-leb _ _ h) ∙ skipped _ PageLimit _ t ∙ none_left
 
@@ -106,49 +106,49 @@ module _ (c : Config) (rs : List Record) (a : Art) (few : page_count rs ≤ c.pa
           room l (no g) = and_no_right (eqb (page_for c rs a.whole) (page_count rs)) (leb c.pages (page_count rs)) (lt-leb c.pages (page_count rs) (omega arith))
       go false h q = absurd (never o q)
 
-pub placed-answer : (l n : Layout) (pl : Option Record) (row : List (Bool × Refusal)) (r : Record) → n ≡ with_record l r → first_of row ≡ none → pl ≡ some r
-    → record { answer = Placed r.page r.frame r.turn; layout = n } ≡ offer_answer l pl (first_of row)
+pub placed-answer : (l n : Layout) (pl : Option Record) (row : List (Bool × Refusal)) (r : Record) → n ≡ with_record l r → first_refusal row ≡ none → pl ≡ some r
+    → record { answer = Placed r.page r.frame r.turn; layout = n } ≡ offer_answer l pl (first_refusal row)
 placed-answer l n pl row r en e p =
     (λ i. record { answer = Placed r.page r.frame r.turn; layout = en i })
     ∙ ap (λ (o : Option Refusal). offer_answer l (some r) o) (sym e)
-    ∙ ap (λ (o : Option Record). offer_answer l o (first_of row)) (sym p)
+    ∙ ap (λ (o : Option Record). offer_answer l o (first_refusal row)) (sym p)
 
-pub nowhere-answer : (l : Layout) (pl : Option Record) (row : List (Bool × Refusal)) → first_of row ≡ none → pl ≡ none
-    → record { answer = OfferRefused TooLarge; layout = l } ≡ offer_answer l pl (first_of row)
-nowhere-answer l pl row e p = ap (λ (o : Option Refusal). offer_answer l none o) (sym e) ∙ ap (λ (o : Option Record). offer_answer l o (first_of row)) (sym p)
+pub nowhere-answer : (l : Layout) (pl : Option Record) (row : List (Bool × Refusal)) → first_refusal row ≡ none → pl ≡ none
+    → record { answer = OfferRefused TooLarge; layout = l } ≡ offer_answer l pl (first_refusal row)
+nowhere-answer l pl row e p = ap (λ (o : Option Refusal). offer_answer l none o) (sym e) ∙ ap (λ (o : Option Record). offer_answer l o (first_refusal row)) (sym p)
 
 -- ## offer, from 4 on
 
 module _ (l : Layout) (s : Stores) (k : Key) (i : Image) where
-  pub rest-size : bad_size i.w i.h ≡ true → first_of (offer_rest l s k i) ≡ some BadSize
+  pub rest-size : bad_size i.w i.h ≡ true → first_refusal (offer_rest l s k i) ≡ some BadSize
   unfolding offer_rest
   rest-size t = hit _ BadSize _ t
 
   module _ (sz : bad_size i.w i.h ≡ false) where
-    pub rest-store : runs_past s i ≡ true → first_of (offer_rest l s k i) ≡ some PastStore
+    pub rest-store : runs_past s i ≡ true → first_refusal (offer_rest l s k i) ≡ some PastStore
     unfolding offer_rest
     rest-store t = skipped _ BadSize _ sz ∙ hit _ PastStore _ t
 
     module _ (st : runs_past s i ≡ false) where
-      pub rest-key : any (has_key k) (standing l) ≡ true → first_of (offer_rest l s k i) ≡ some KeyStands
+      pub rest-key : any (has_key k) (standing l) ≡ true → first_refusal (offer_rest l s k i) ≡ some KeyStands
       unfolding offer_rest
       rest-key t = skipped _ BadSize _ sz ∙ skipped _ PastStore _ st ∙ hit _ KeyStands _ t
 
       module _ (ky : any (has_key k) (standing l) ≡ false) where
-        pub rest-clear : (l.config.trim && all_clear s i) ≡ true → first_of (offer_rest l s k i) ≡ some AllClear
+        pub rest-clear : (l.config.trim && all_clear s i) ≡ true → first_refusal (offer_rest l s k i) ≡ some AllClear
         unfolding offer_rest
         rest-clear t = skipped _ BadSize _ sz ∙ skipped _ PastStore _ st ∙ skipped _ KeyStands _ ky ∙ hit _ AllClear _ t
 
-        rest-room : (l.config.trim && all_clear s i) ≡ false → first_of (room_rest l (art_for l.config s k i)) ≡ first_of (offer_rest l s k i)
+        rest-room : (l.config.trim && all_clear s i) ≡ false → first_refusal (room_rest l (art_for l.config s k i)) ≡ first_refusal (offer_rest l s k i)
         unfolding offer_rest
         rest-room t = sym (skipped _ BadSize _ sz ∙ skipped _ PastStore _ st ∙ skipped _ KeyStands _ ky ∙ skipped _ AllClear _ t)
 
         -- past 7, for the art as the code makes it
         pub rest-made : (r : Offering) (a : Art) → a ≡ art_for l.config s k i → (l.config.trim && all_clear s i) ≡ false
-            → r ≡ offer_answer l (placed l.config (standing l) a) (first_of (room_rest l a))
-            → r ≡ offer_answer l (placed l.config (standing l) (art_for l.config s k i)) (first_of (offer_rest l s k i))
+            → r ≡ offer_answer l (placed l.config (standing l) a) (first_refusal (room_rest l a))
+            → r ≡ offer_answer l (placed l.config (standing l) (art_for l.config s k i)) (first_refusal (offer_rest l s k i))
         rest-made r a ea t e =
-            e ∙ ap (λ (z : Art). offer_answer l (placed l.config (standing l) z) (first_of (room_rest l z))) ea
+            e ∙ ap (λ (z : Art). offer_answer l (placed l.config (standing l) z) (first_refusal (room_rest l z))) ea
             ∙ ap (offer_answer l (placed l.config (standing l) (art_for l.config s k i))) (rest-room t)
 
 pub art_made : (c : Config) (s : Stores) (key : Key) (i : Image) (k : Rect) → k ≡ trim_box c.trim s i

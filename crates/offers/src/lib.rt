@@ -6,7 +6,7 @@ ghost use Rattle.art.specs.Stores.{lent, InStore};
 ghost use Rattle.records.specs.Settings.{in_bounds};
 ghost use Rattle.records.specs.Records.{size_of};
 ghost use Rattle.records.specs.Layouts.{standing, well_formed};
-ghost use Rattle.records.specs.Refusals.{first_of};
+ghost use Rattle.records.specs.Refusals.{first_refusal};
 ghost use Rattle.records.specs.declared.frame.Record.{Record};
 ghost use Rattle.rules.specs.Placing.{placed};
 ghost use Rattle.rules.specs.Operations.{bad_size, art_for, too_large, with_record, offer_answer};
@@ -115,7 +115,7 @@ fn offer_art(
 ) -> Offering
     requires l_value { (well_formed l ≡ true) × Skies l.config (standing l) pages xs.old ys.old ns.old }
     requires sized { Sized a.whole × Sized (size_of a.kept) }
-    ensures { result ≡ offer_answer l (placed l.config (standing l) a) (first_of (room_rest l a)) }
+    ensures { result ≡ offer_answer l (placed l.config (standing l) a) (first_refusal (room_rest l a)) }
 {
     let c = l.config;
     let k = a.kept;
@@ -166,7 +166,7 @@ pub fn offer_on<'a>(
 ) -> Offering
     requires { (well_formed l ≡ true) × Skies l.config (standing l) pages xs.old ys.old ns.old }
     ensures { result ≡ offer_answer l (placed l.config (standing l) (art_for l.config (lent symbols.now wording.now) key image))
-        (first_of (offer_rest l (lent symbols.now wording.now) key image)) }
+        (first_refusal (offer_rest l (lent symbols.now wording.now) key image)) }
 {
     if bad_size(image.w, image.h) {
         return Offering {

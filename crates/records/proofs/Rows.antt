@@ -11,7 +11,7 @@ use lib.ListN.{length, get_or}
 use borrow.Author.Tests.{eq-eqb, not-true}
 use Rattle.geometry.proofs.Words.{not_both, and_left, and_right, both}
 use Rattle.geometry.specs.Words.{all_of, all}
-use Rattle.records.specs.Refusals.{number_of, Row, first_of}
+use Rattle.records.specs.Refusals.{number_of, Row, first_refusal}
 use Rattle.records.specs.declared.refusal.Refusal.{Refusal}
 
 -- ## all of a row
@@ -71,24 +71,24 @@ joined b bs cs h = joins b bs ∙ agree (b ∷ bs) cs h
 -- ## the first of a row
 
 module _ (b : Bool) (r : Refusal) (cs : Row) where
-  pub hit : b ≡ true → first_of ((b, r) ∷ cs) ≡ some r
-  unfolding first_of
+  pub hit : b ≡ true → first_refusal ((b, r) ∷ cs) ≡ some r
+  unfolding first_refusal
   hit e = rw e
 
-  pub skipped : b ≡ false → first_of ((b, r) ∷ cs) ≡ first_of cs
-  unfolding first_of
+  pub skipped : b ≡ false → first_refusal ((b, r) ∷ cs) ≡ first_refusal cs
+  unfolding first_refusal
   skipped e = rw e
 
-  pub passed : first_of ((b, r) ∷ cs) ≡ none → (b ≡ false) × (first_of cs ≡ none)
-  unfolding first_of
+  pub passed : first_refusal ((b, r) ∷ cs) ≡ none → (b ≡ false) × (first_refusal cs ≡ none)
+  unfolding first_refusal
   passed e = go b e
     where
-      go : (t : Bool) → cond t (some r) (first_of cs) ≡ none → (t ≡ false) × (first_of cs ≡ none)
+      go : (t : Bool) → cond t (some r) (first_refusal cs) ≡ none → (t ≡ false) × (first_refusal cs ≡ none)
       go true q = let z : ◌≡◌ {A = ℕ} 0 1 = cc in absurd (omega arith)
       go false q = (refl, q)
 
-pub none_left : first_of [] ≡ none
-unfolding first_of
+pub none_left : first_refusal [] ≡ none
+unfolding first_refusal
 none_left = refl
 
 -- r is answered: its test holds, and none before it
@@ -96,18 +96,18 @@ abbrev pub First : Row → Refusal → Type 0
 First [] r = ⊥
 First (c ∷ cs) r = ((c.0 ≡ true) × (c.1 ≡ r)) ⊎ ((c.0 ≡ false) × First cs r)
 
-pub first-is : (cs : Row) {r : Refusal} → First cs r → first_of cs ≡ some r
-unfolding first_of
+pub first-is : (cs : Row) {r : Refusal} → First cs r → first_refusal cs ≡ some r
+unfolding first_refusal
 first-is [] h = absurd h
 first-is (c ∷ cs) (inl h) = rw h.0 (ap some h.1)
 first-is (c ∷ cs) (inr h) = rw h.0 (first-is cs h.1)
 
-pub is-first : (cs : Row) {r : Refusal} → first_of cs ≡ some r → First cs r
-unfolding first_of
+pub is-first : (cs : Row) {r : Refusal} → first_refusal cs ≡ some r → First cs r
+unfolding first_refusal
 is-first [] e = let z : ◌≡◌ {A = ℕ} 0 1 = cc in absurd (omega arith)
 is-first (c ∷ cs) {r} e = go c.0 refl e (λ q. is-first cs q)
   where
-    go : (t : Bool) → c.0 ≡ t → cond t (some c.1) (first_of cs) ≡ some r → (first_of cs ≡ some r → First cs r) → First (c ∷ cs) r
+    go : (t : Bool) → c.0 ≡ t → cond t (some c.1) (first_refusal cs) ≡ some r → (first_refusal cs ≡ some r → First cs r) → First (c ∷ cs) r
     go true p q rest = inl (p, (cc))
     go false p q rest = inr (p, rest q)
 
@@ -144,7 +144,7 @@ at_first (c ∷ cs) b r after n e = inr (n.0, at_first cs b r after n.1 e)
 
 -- a row's number is given exactly when its condition holds and none before it does
 pub exactly : (before : Row) (b : Bool) (r : Refusal) (after : Row) → lacks r before ≡ true → lacks r after ≡ true
-    → first_of (before ++ (b, r) ∷ after) ≡ some r ↔ Nones before × (b ≡ true)
+    → first_refusal (before ++ (b, r) ∷ after) ≡ some r ↔ Nones before × (b ≡ true)
 exactly before b r after p q =
     (λ e. first-at before b r after p q (is-first _ e), λ h. first-is _ (at_first before b r after h.0 h.1))
 

@@ -3,7 +3,7 @@
 use Rattle.std.specs.Prelude.{ℕ, Bool, not, List, [], ◌∷◌, leb}
 use Rattle.std.proofs.Math.Option.{Option, none, some}
 use Rattle.geometry.specs.declared.rect.Size.{Size}
-use Rattle.records.specs.Refusals.{number_of, Row, first_of}
+use Rattle.records.specs.Refusals.{number_of, Row, first_refusal}
 use Rattle.records.specs.Settings.{in_bounds, blank_config, empty_layout}
 use Rattle.records.specs.Layouts.{standing, well_formed, page_count, size_of_page}
 use Rattle.records.specs.declared.texture_packer_config.Config.{Config}
@@ -23,7 +23,7 @@ unfoldable pub open_row : Config → Row
 open_row c = (not (in_bounds c), OutOfBounds) ∷ []
 
 unfoldable pub open_refusal : Config → Option Refusal
-open_refusal c = first_of (open_row c)
+open_refusal c = first_refusal (open_row c)
 
 -- a refused open gives the blank layout
 abbrev pub open_answer : Config → Option Refusal → Opening
@@ -47,7 +47,7 @@ unfoldable pub size_row : Layout → Page → Row
 size_row l p = (not (well_formed l), NotWellFormed) ∷ (no_such_page l p, NoSuchPage) ∷ []
 
 unfoldable pub size_refusal : Layout → Page → Option Refusal
-size_refusal l p = first_of (size_row l p)
+size_refusal l p = first_refusal (size_row l p)
 
 abbrev pub size_answer : Size → Option Refusal → Sized
 size_answer s none = Is s

@@ -33,6 +33,6 @@ abbrev pub row_numbers : Row → List ℕ
 row_numbers = map (λ c. number_of c.1)
 
 -- a row's checks run left to right; the first that holds is answered
-unfoldable pub first_of : Row → Option Refusal
-first_of [] = none
-first_of (c ∷ cs) = cond c.0 (some c.1) (first_of cs)
+unfoldable pub first_refusal : Row → Option Refusal
+first_refusal [] = none
+first_refusal (c ∷ cs) = cond c.0 (some c.1) (first_refusal cs)

@@ -12,7 +12,7 @@ use lib.Seq.{split_at}
 use Rattle.geometry.specs.declared.rect.Size.{Size}
 use Rattle.art.specs.Stores.{Stores}
 use Rattle.art.specs.declared.memory_rgba8_texture.Image.{Image}
-use Rattle.records.specs.Refusals.{number_of, first_of, Row, row_numbers}
+use Rattle.records.specs.Refusals.{number_of, first_refusal, Row, row_numbers}
 use Rattle.records.specs.declared.frame.Key.{Key}
 use Rattle.records.specs.declared.frame.Page.{Page}
 use Rattle.records.specs.declared.layout.Layout.{Layout}
@@ -23,15 +23,15 @@ use Rattle.records.proofs.Rows.{skipped, Nones, lacks, exactly}
 
 -- ## the rows
 
-pub ask-row : (l : Layout) (p : Page) (s : Size) → ask_refusal l p s ≡ first_of (ask_row l p s)
+pub ask-row : (l : Layout) (p : Page) (s : Size) → ask_refusal l p s ≡ first_refusal (ask_row l p s)
 unfolding ask_refusal
 ask-row l p s = refl
 
-pub offer-row : (l : Layout) (s : Stores) (k : Key) (i : Image) → offer_refusal l s k i ≡ first_of (offer_row l s k i)
+pub offer-row : (l : Layout) (s : Stores) (k : Key) (i : Image) → offer_refusal l s k i ≡ first_refusal (offer_row l s k i)
 unfolding offer_refusal
 offer-row l s k i = refl
 
-pub withdraw_row_lem : (l : Layout) → withdraw_refusal l ≡ first_of (withdraw_row l)
+pub withdraw_row_lem : (l : Layout) → withdraw_refusal l ≡ first_refusal (withdraw_row l)
 unfolding withdraw_refusal
 withdraw_row_lem l = refl
 
@@ -53,27 +53,27 @@ abbrev pub Once : ℕ → Row → Type 0
 Once n row = (lacks (refusal_at n row) (take n row) ≡ true) × (lacks (refusal_at n row) (drop (suc n) row) ≡ true)
 
 -- "Each row's checks run left to right; the first that holds is answered. Each is given exactly when its condition holds."
-pub exactly_at : (row : Row) (n : ℕ) → n < length row → Once n row → first_of row ≡ some (refusal_at n row) ↔ (Passed n row × (test_at n row ≡ true))
+pub exactly_at : (row : Row) (n : ℕ) → n < length row → Once n row → first_refusal row ≡ some (refusal_at n row) ↔ (Passed n row × (test_at n row ≡ true))
 exactly_at row n h o =
-    let s = ap first_of (split_at row n (false, OutOfBounds) h) in
+    let s = ap first_refusal (split_at row n (false, OutOfBounds) h) in
     let x = exactly (take n row) (test_at n row) (refusal_at n row) (drop (suc n) row) o.0 o.1 in
     (λ e. x.0 (sym s ∙ e), λ t. s ∙ x.1 t)
 
 -- and no other number is
-pub answer_in : (row : Row) (r : Refusal) → first_of row ≡ some r → Memᴰ (number_of r) (row_numbers row)
-unfolding first_of
+pub answer_in : (row : Row) (r : Refusal) → first_refusal row ≡ some r → Memᴰ (number_of r) (row_numbers row)
+unfolding first_refusal
 answer_in [] r e = let z : ◌≡◌ {A = ℕ} 0 1 = cc in absurd (omega arith)
 answer_in ((true, q) ∷ cs) r e = let z : r ≡ q = cc in Memᴰ.head (ap number_of z)
 answer_in ((false, q) ∷ cs) r e = Memᴰ.tail (answer_in cs r e)
 
 -- nothing is answered exactly when no check holds
-pub none-holds : (row : Row) → first_of row ≡ none → Nones row
-unfolding first_of
+pub none-holds : (row : Row) → first_refusal row ≡ none → Nones row
+unfolding first_refusal
 none-holds [] e = tt
 none-holds ((true, r) ∷ cs) e = let z : ◌≡◌ {A = ℕ} 0 1 = cc in absurd (omega arith)
 none-holds ((false, r) ∷ cs) e = (refl, none-holds cs e)
 
-pub holds-none : (row : Row) → Nones row → first_of row ≡ none
-unfolding first_of
+pub holds-none : (row : Row) → Nones row → first_refusal row ≡ none
+unfolding first_refusal
 holds-none [] p = refl
 holds-none (c ∷ cs) p = skipped c.0 c.1 cs p.0 ∙ holds-none cs p.1

@@ -19,7 +19,7 @@ use Rattle.geometry.specs.declared.spot.Turn.{Turn}
 use Rattle.art.specs.Stores.{Stores, runs_past}
 use Rattle.art.specs.Trimming.{all_clear}
 use Rattle.art.specs.declared.memory_rgba8_texture.Image.{Image}
-use Rattle.records.specs.Refusals.{number_of, first_of, row_numbers}
+use Rattle.records.specs.Refusals.{number_of, first_refusal, row_numbers}
 use Rattle.records.specs.Settings.{in_bounds, blank_config, empty_layout}
 use Rattle.records.specs.Records.{size_of}
 use Rattle.records.specs.Layouts.{standing, has_key, well_formed, page_count}
@@ -61,14 +61,14 @@ use Rattle.rules.proofs.Undo.{gone, undone}
 -- ## "ask (page, size): 2 3 4 11"; "offer: 2 3 4 5 6 7 8 9 10"; "withdraw latest: 2 3 18"
 
 pub ask-order : (l : Layout) (p : Page) (s : Size)
-    → (ask_refusal l p s ≡ first_of (ask_row l p s)) × (row_numbers (ask_row l p s) ≡ 2 ∷ 3 ∷ 4 ∷ 11 ∷ [])
+    → (ask_refusal l p s ≡ first_refusal (ask_row l p s)) × (row_numbers (ask_row l p s) ≡ 2 ∷ 3 ∷ 4 ∷ 11 ∷ [])
 ask-order l p s = (ask-row l p s, refl)
 
 pub offer-order : (l : Layout) (s : Stores) (k : Key) (i : Image)
-    → (offer_refusal l s k i ≡ first_of (offer_row l s k i)) × (row_numbers (offer_row l s k i) ≡ 2 ∷ 3 ∷ 4 ∷ 5 ∷ 6 ∷ 7 ∷ 8 ∷ 9 ∷ 10 ∷ [])
+    → (offer_refusal l s k i ≡ first_refusal (offer_row l s k i)) × (row_numbers (offer_row l s k i) ≡ 2 ∷ 3 ∷ 4 ∷ 5 ∷ 6 ∷ 7 ∷ 8 ∷ 9 ∷ 10 ∷ [])
 offer-order l s k i = (offer-row l s k i, refl)
 
-pub withdraw_order : (l : Layout) → (withdraw_refusal l ≡ first_of (withdraw_row l)) × (row_numbers (withdraw_row l) ≡ 2 ∷ 3 ∷ 18 ∷ [])
+pub withdraw_order : (l : Layout) → (withdraw_refusal l ≡ first_refusal (withdraw_row l)) × (row_numbers (withdraw_row l) ≡ 2 ∷ 3 ∷ 18 ∷ [])
 withdraw_order l = (withdraw_row_lem l, refl)
 
 -- ## "Each row's checks run left to right; the first that holds is answered. Each is given exactly when its condition holds."

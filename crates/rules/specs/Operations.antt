@@ -8,7 +8,7 @@ use Rattle.geometry.specs.declared.rect.Size.{Size}
 use Rattle.art.specs.Stores.{Stores, runs_past}
 use Rattle.art.specs.Trimming.{all_clear, trim_box}
 use Rattle.art.specs.declared.memory_rgba8_texture.Image.{Image}
-use Rattle.records.specs.Refusals.{number_of, Row, first_of}
+use Rattle.records.specs.Refusals.{number_of, Row, first_refusal}
 use Rattle.records.specs.Settings.{blank_record}
 use Rattle.records.specs.Records.{size_of}
 use Rattle.records.specs.Layouts.{standing, has_key, well_formed, page_count}
@@ -47,7 +47,7 @@ ask_row l p s =
     ∷ []
 
 unfoldable pub ask_refusal : Layout → Page → Size → Option Refusal
-ask_refusal l p s = first_of (ask_row l p s)
+ask_refusal l p s = first_refusal (ask_row l p s)
 
 -- yes or no for one page as it stands
 unfoldable pub fits_page : Layout → Page → Size → Bool
@@ -103,7 +103,7 @@ offer_row l s k i =
     ∷ []
 
 unfoldable pub offer_refusal : Layout → Stores → Key → Image → Option Refusal
-offer_refusal l s k i = first_of (offer_row l s k i)
+offer_refusal l s k i = first_refusal (offer_row l s k i)
 
 -- one record more
 unfoldable pub with_record : Layout → Record → Layout
@@ -128,7 +128,7 @@ abbrev pub withdraw_row : Layout → Row
 withdraw_row l = (not (well_formed l), NotWellFormed) ∷ (not (faithful l), NotFaithful) ∷ (eqb l.count 0, NothingStands) ∷ []
 
 unfoldable pub withdraw_refusal : Layout → Option Refusal
-withdraw_refusal l = first_of (withdraw_row l)
+withdraw_refusal l = first_refusal (withdraw_row l)
 
 -- the latest record gone, its place blank
 unfoldable pub without_latest : Layout → Layout
