@@ -50,6 +50,7 @@ fn pack_pages<'a>(
     false
 }
 
+// A folder that std cannot name is refused before its pages are: where nothing in it can be looked at or removed, a job without pages would pass.
 fn do_pages<'a>(
     rt: &(impl Files + Print),
     program: Program,
@@ -60,6 +61,11 @@ fn do_pages<'a>(
     wording: &'a [u8],
     background: Background,
 ) -> bool {
+    if !system::is_name(folder) {
+        telling::say(rt, folder);
+        telling::say(rt, b": cannot be opened\n");
+        return false;
+    }
     match program {
         Program::Pack => pack_pages(rt, folder, buf, l, symbols, wording, background),
         Program::Verify => page_folder::each_page(

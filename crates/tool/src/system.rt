@@ -58,6 +58,10 @@ pub fn write_all<F: Write>(file: &mut F, bytes: &[u8]) -> bool {
 
 // std takes a path as text: bytes that are not UTF-8 name no file here.
 
+pub fn is_name(path: &[u8]) -> bool {
+    str::from_utf8(path).is_ok()
+}
+
 pub fn open_read<R: Files>(rt: &R, path: &[u8]) -> Option<R::File> {
     match str::from_utf8(path) {
         Ok(name) => fs::open(rt, name).ok(),
