@@ -4,16 +4,9 @@ ghost use Rattle.art.specs.Stores.{lent, InStore};
 ghost use Rattle.art.specs.Search.{lines_of, line_visible};
 ghost use Rattle.art.specs.Trimming.{first_seen, past_seen, trimmed_to};
 
-use crate::memory_rgba8_texture::Image;
+use crate::memory_rgba8_texture::{Image, Stores};
 use crate::texture::{is_column_transparent, is_row_transparent};
 use geometry::rect::Rect;
-
-// What is left of an image when it is trimmed.
-#[derive(Clone, Copy)]
-pub enum Trimmed {
-    AllClear,
-    To(Rect),
-}
 
 // An image taken as its columns or as its rows.
 #[derive(Clone, Copy)]
@@ -31,30 +24,24 @@ fn count_of(lines: Lines, image: Image) -> u32
     }
 }
 
-fn is_line_transparent<'a>(
-    symbols: &'a [u8],
-    wording: &'a [u8],
-    image: Image,
-    lines: Lines,
-    k: u32,
-) -> bool
-    requires { InStore (lent symbols.now wording.now) image × (k < lines_of lines image) }
-    ensures { result ≡ not (line_visible lines (lent symbols.now wording.now) image k) }
+fn is_line_transparent(stores: Stores<'_>, image: Image, lines: Lines, k: u32) -> bool
+    requires { InStore (lent stores) image × (k < lines_of lines image) }
+    ensures { result ≡ not (line_visible lines (lent stores.entry) image k) }
 {
     match lines {
-        Lines::Columns => is_column_transparent(symbols, wording, image, k),
-        Lines::Rows => is_row_transparent(symbols, wording, image, k),
+        Lines::Columns => is_column_transparent(stores, image, k),
+        Lines::Rows => is_row_transparent(stores, image, k),
     }
 }
 
-fn first_seen<'a>(symbols: &'a [u8], wording: &'a [u8], image: Image, lines: Lines) -> u32
-    requires { InStore (lent symbols.now wording.now) image }
-    ensures { result ≡ first_seen (line_visible lines (lent symbols.now wording.now) image) (lines_of lines image) }
+fn first_seen(stores: Stores<'_>, image: Image, lines: Lines) -> u32
+    requires { InStore (lent stores) image }
+    ensures { result ≡ first_seen (line_visible lines (lent stores.entry) image) (lines_of lines image) }
 {
     let n = count_of(lines, image);
     let mut k: u32 = 0;
     while k < n {
-        if !is_line_transparent(symbols, wording, image, lines, k) {
+        if !is_line_transparent(stores, image, lines, k) {
             return k;
         }
         k += 1;
@@ -62,13 +49,13 @@ fn first_seen<'a>(symbols: &'a [u8], wording: &'a [u8], image: Image, lines: Lin
     k
 }
 
-fn past_seen<'a>(symbols: &'a [u8], wording: &'a [u8], image: Image, lines: Lines) -> u32
-    requires { InStore (lent symbols.now wording.now) image }
-    ensures { result ≡ past_seen (line_visible lines (lent symbols.now wording.now) image) (lines_of lines image) }
+fn past_seen(stores: Stores<'_>, image: Image, lines: Lines) -> u32
+    requires { InStore (lent stores) image }
+    ensures { result ≡ past_seen (line_visible lines (lent stores.entry) image) (lines_of lines image) }
 {
     let mut k = count_of(lines, image);
     while 0 < k {
-        if !is_line_transparent(symbols, wording, image, lines, k - 1) {
+        if !is_line_transparent(stores, image, lines, k - 1) {
             return k;
         }
         k -= 1;
@@ -76,18 +63,17 @@ fn past_seen<'a>(symbols: &'a [u8], wording: &'a [u8], image: Image, lines: Line
     k
 }
 
-// Columns first, as the crate does. Each search ends at the first line that can be seen, so that art which fills its image costs a few reads.
-pub fn trim_texture<'a>(symbols: &'a [u8], wording: &'a [u8], image: Image) -> Trimmed
-    requires { InStore (lent symbols.now wording.now) image }
-    ensures { result ≡ trimmed_to (lent symbols.now wording.now) image }
+// What is left of an image when it is trimmed, if anything of it can be seen. Columns first, as the crate does. Each search ends at the first line that can be seen, so that art which fills its image costs a few reads.
+pub fn trim_texture(stores: Stores<'_>, image: Image) -> Option<Rect>
+    requires { InStore (lent stores) image }
+    ensures { result ≡ trimmed_to (lent stores.entry) image }
 {
-    let left = first_seen(symbols, wording, image, Lines::Columns);
+    let left = first_seen(stores, image, Lines::Columns);
     if left == image.w {
-        return Trimmed::AllClear;
+        return None;
     }
-    let right = past_seen(symbols, wording, image, Lines::Columns);
-    let top = first_seen(symbols, wording, image, Lines::Rows);
-    let bottom = past_seen(symbols, wording, image, Lines::Rows);
-    let kept = Rect::new(left, top, right - left, bottom - top);
-    Trimmed::To(kept)
+    let right = past_seen(stores, image, Lines::Columns);
+    let top = first_seen(stores, image, Lines::Rows);
+    let bottom = past_seen(stores, image, Lines::Rows);
+    Some(Rect::new(left, top, right - left, bottom - top))
 }

@@ -12,7 +12,7 @@ use Rattle.art.proofs.trim.first_seen.Goals as goal
 -- what the code asks of a line, as the rule says it
 line : (c : After-is_line_transparent) →
     let a = c.args in
-    c.is_line_transparent.result ≡ not (line_visible a.lines (lent a.symbols.now a.wording.now) a.image c.loop-k.k)
+    c.is_line_transparent.result ≡ not (line_visible a.lines (lent a.stores) a.image c.loop-k.k)
 line c = c.is_line_transparent.ensures
 
 pub loop-k-init : goal.loop-k-init

@@ -7,7 +7,7 @@ use Rattle.art.proofs.trim.first_seen.Given as goal
 
 -- `first_seen` has found no visible line before line k. Assumes nothing.
 abbrev pub invariant-loop-k : goal.invariant-loop-k
-invariant-loop-k l = (l.k ≤ l.n) × ((j : ℕ) → j < l.k → line_visible l.lines (lent l.symbols l.wording) l.image j ≡ false)
+invariant-loop-k l = (l.k ≤ l.n) × ((j : ℕ) → j < l.k → line_visible l.lines (lent l.stores) l.image j ≡ false)
 
 abbrev pub decreases-loop-k : goal.decreases-loop-k
 decreases-loop-k l = l.n - l.k

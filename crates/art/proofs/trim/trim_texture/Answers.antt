@@ -11,7 +11,7 @@ use Rattle.art.proofs.trim.trim_texture.Goals as goal
 -- a column is visible, so that not all is clear
 seen : (c : Else-left-image) →
     let a = c.args in
-    all_clear (lent a.symbols.now a.wording.now) a.image ≡ false
+    all_clear (lent a.stores) a.image ≡ false
 seen c = left_seen _ _ (λ e. c.if-left-image.false (c.first_seen-left.ensures ∙ e))
 
 pub returns-then-left-image : goal.returns-then-left-image
@@ -29,8 +29,8 @@ overflow_sub-bottom c =
 
 pub returns : goal.returns
 returns c =
-    sym (box_answer _ _ (seen (goal.at.returns c).Else-left-image) c.new-kept.result
-    (c.new-kept.ensures ∙ box_is _ _ _ _ _ _
+    sym (box_answer _ _ (seen (goal.at.returns c).Else-left-image) c.new.result
+    (c.new.ensures ∙ box_is _ _ _ _ _ _
     c.first_seen-left.ensures
     c.past_seen-right.ensures
     c.first_seen-top.ensures
