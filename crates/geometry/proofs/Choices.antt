@@ -1,12 +1,11 @@
 -- The choice as the code makes it. Assumes nothing.
+use Rattle.std.specs.Prelude.{Option, Some, None}
 use Prim.Native.Nat.{ℕ, ◌+◌, ◌≤◌, ◌<◌}
 use mathlib.Core.Path.{◌≡◌, refl, sym, ◌∙◌}
 use mathlib.Core.Bool.{true, false}
 use native.Mathlib.Omega.{arith}
 use lib.Dec.{ltb}
 use Rattle.geometry.specs.declared.spot.Spot.{Spot}
-use Rattle.geometry.specs.declared.spot.Found.{Found}
-use Rattle.geometry.specs.declared.spot.Found.TheVariants.{Nothing, At}
 use Rattle.geometry.specs.Words.{before}
 use Rattle.geometry.specs.Placing.{turn_number, rank, better}
 use Rattle.geometry.specs.Choice.{choice, lowest}
@@ -34,30 +33,30 @@ module _ (a b : Spot) where
 
 -- ## the choice
 
-pub choice-none : (a : Found) → a ≡ choice a Nothing
+pub choice-none : (a : Option Spot) → a ≡ choice a None
 unfolding choice
 choice-none a = refl
 
-pub choice-first : (k : Spot) → At k ≡ choice Nothing (At k)
+pub choice-first : (k : Spot) → Some k ≡ choice None (Some k)
 unfolding choice better
 choice-first k = refl
 
-pub choice_new : (j k : Spot) → true ≡ before (rank k) (rank j) → At k ≡ choice (At j) (At k)
+pub choice_new : (j k : Spot) → true ≡ before (rank k) (rank j) → Some k ≡ choice (Some j) (Some k)
 unfolding choice better
 choice_new j k h = rw (sym h)
 
-pub choice-old : (j k : Spot) → false ≡ before (rank k) (rank j) → At j ≡ choice (At j) (At k)
+pub choice-old : (j k : Spot) → false ≡ before (rank k) (rank j) → Some j ≡ choice (Some j) (Some k)
 unfolding choice better
 choice-old j k h = rw (sym h)
 
-pub lowest-none : (H : ℕ) → H ≡ lowest H Nothing
+pub lowest-none : (H : ℕ) → H ≡ lowest H None
 unfolding lowest
 lowest-none H = refl
 
-pub lowest_above : (H : ℕ) (k : Spot) → k.bottom < H → k.bottom + 1 ≡ lowest H (At k)
+pub lowest_above : (H : ℕ) (k : Spot) → k.bottom < H → k.bottom + 1 ≡ lowest H (Some k)
 unfolding lowest
 lowest_above H k l = omega arith
 
-pub lowest_edge : (H : ℕ) (k : Spot) → H ≤ k.bottom → H ≡ lowest H (At k)
+pub lowest_edge : (H : ℕ) (k : Spot) → H ≤ k.bottom → H ≡ lowest H (Some k)
 unfolding lowest
 lowest_edge H k l = omega arith

@@ -12,4 +12,4 @@ pub returns-then-a-b-3 : goal.returns-then-a-b-3
 returns-then-a-b-3 c = rank-start _ _ (search rules) (search rules) (search rules)
 
 pub returns : goal.returns
-returns c = rank-turn _ _ _ _ (search rules) (search rules) (search rules) c.turn_number.ensures c.turn_number-2.ensures
+returns c = rank-turn _ _ _ _ (search rules) (search rules) (search rules) c.from.ensures c.from-2.ensures
