@@ -11,14 +11,14 @@ use geometry::rect::{Rect, Size};
 use geometry::spot;
 use geometry::spot::Turn;
 
-#[derive(Clone, Copy)]
+#[derive(Clone, Copy, PartialEq, Eq)]
 pub struct Key(pub u32);
 
-#[derive(Clone, Copy)]
+#[derive(Clone, Copy, PartialEq, Eq)]
 pub struct Page(pub u32);
 
 // The trim box's corner in the whole image, and the whole image's size.
-#[derive(Clone, Copy)]
+#[derive(Clone, Copy, PartialEq, Eq)]
 pub struct Source {
     pub x: u32,
     pub y: u32,

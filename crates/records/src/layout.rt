@@ -20,23 +20,14 @@ pub struct Layout {
     pub records: [Record; 256],
 }
 
+// An answer, and the layout that goes along.
 #[derive(Clone, Copy)]
-pub enum Opened {
-    Done,
-    Refused(Refusal),
-}
-
-#[derive(Clone, Copy)]
-pub struct Opening {
-    pub answer: Opened,
+pub struct Answered<A> {
+    pub answer: A,
     pub layout: Layout,
 }
 
-#[derive(Clone, Copy)]
-pub enum Sized {
-    Is(Size),
-    Refused(Refusal),
-}
+pub type Opening = Answered<Result<(), Refusal>>;
 
 pub fn empty_layout(c: Config) -> Layout
     ensures { result ≡ empty_layout c }
@@ -55,14 +46,14 @@ pub fn open(c: Config) -> Opening
     ensures answer_value { opened_numbers result.answer ≡ opened_numbers (opened c).answer }
 {
     if texture_packer_config::in_bounds(c) {
-        return Opening {
-            answer: Opened::Done,
+        return Answered {
+            answer: Ok(()),
             layout: empty_layout(c),
         };
     }
     let blank = texture_packer_config::blank_config();
-    Opening {
-        answer: Opened::Refused(Refusal::OutOfBounds),
+    Answered {
+        answer: Err(Refusal::OutOfBounds),
         layout: empty_layout(blank),
     }
 }
@@ -204,15 +195,15 @@ pub fn size_of_page(l: Layout, page: Page) -> Size
 }
 
 // page size: 2 11
-pub fn page_size(l: Layout, page: Page) -> Sized
+pub fn page_size(l: Layout, page: Page) -> Result<Size, Refusal>
     ensures value { result ≡ page_sized l page }
     ensures result_value { sized_numbers result ≡ sized_numbers (page_sized l page) }
 {
     if !well_formed(l) {
-        return Sized::Refused(Refusal::NotWellFormed);
+        return Err(Refusal::NotWellFormed);
     }
     if page_count(l) <= page.0 {
-        return Sized::Refused(Refusal::NoSuchPage);
+        return Err(Refusal::NoSuchPage);
     }
-    Sized::Is(size_of_page(l, page))
+    Ok(size_of_page(l, page))
 }
