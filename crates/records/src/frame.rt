@@ -26,7 +26,7 @@ pub struct Source {
     pub h: u32,
 }
 
-#[derive(Clone, Copy)]
+#[derive(Clone, Copy, PartialEq, Eq)]
 pub struct Record {
     pub key: Key,
     pub page: Page,
@@ -94,7 +94,7 @@ pub fn is_blank(r: Record) -> bool
     (r.key.0 == 0)
         & (r.page.0 == 0)
         & all_zero(frame.x, frame.y, frame.w, frame.h)
-        & (spot::turn_number(turn) == 0)
+        & (u32::from(turn) == 0)
         & !r.trimmed
         & all_zero(source.x, source.y, source.w, source.h)
         & (store_number(store) == 0)
