@@ -123,16 +123,9 @@ pub fn page_past<'a>(l: Layout, symbols: &'a [u8], wording: &'a [u8], page: Page
     requires { well_formed l ≡ true }
     ensures { result ≡ page_past (lent symbols.now wording.now) page (standing l) }
 {
-    let count = l.count;
-    let mut i = 0;
-    while i < count {
-        let r = l.records[i];
-        if on_page_past(symbols, wording, page, r) {
-            return true;
-        }
-        i += 1;
-    }
-    false
+    l.records[..l.count]
+        .iter()
+        .any(|r| on_page_past(symbols, wording, page, *r))
 }
 
 // The earliest frame whose zone holds the pixel shows it.
@@ -148,14 +141,10 @@ fn pixel_at<'a>(
     ensures { result ≡ look_answer (pixel_at l (lent symbols.now wording.now) page x y) none }
 {
     let c = l.config;
-    let count = l.count;
-    let mut i = 0;
-    while i < count {
-        let r = l.records[i];
-        if reaches_pixel(c, page, r, x, y) {
-            return Looked::Shows(frame_pixel(symbols, wording, c, r, x, y));
+    for r in &l.records[..l.count] {
+        if reaches_pixel(c, page, *r, x, y) {
+            return Looked::Shows(frame_pixel(symbols, wording, c, *r, x, y));
         }
-        i += 1;
     }
     Looked::NoPixel
 }
