@@ -26,24 +26,16 @@ pub enum Looked {
     Refused(Refusal),
 }
 
-// Not below 0.
-fn less(n: u32, e: u32) -> u32
-    ensures { result ≡ n - e }
-{
-    if n < e { 0 } else { n - e }
-}
-
 pub fn zone_of(c: Config, r: Record) -> Rect
     requires { (in_bounds c ≡ true) × (record_well_formed c r ≡ true) }
     ensures { result ≡ zone c r }
 {
     let f = r.frame;
     let e = c.extrusion;
-    let x = less(f.x, e);
-    let y = less(f.y, e);
+    // The zone's corner is not below 0.
     Rect {
-        x,
-        y,
+        x: f.x.saturating_sub(e),
+        y: f.y.saturating_sub(e),
         w: f.w + 2 * e,
         h: f.h + 2 * e,
     }
@@ -61,8 +53,7 @@ fn local_of(x: u32, corner: u32, side: u32) -> u32
     requires { 1 ≤ side }
     ensures { result ≡ local x corner side }
 {
-    let d = less(x, corner);
-    if d < side { d } else { side - 1 }
+    x.saturating_sub(corner).min(side - 1)
 }
 
 fn box_pixel<'a>(symbols: &'a [u8], wording: &'a [u8], r: Record, x: u32, y: u32) -> Pixel
