@@ -26,24 +26,16 @@ pub enum Looked {
     Refused(Refusal),
 }
 
-// Not below 0.
-fn less(n: u32, e: u32) -> u32
-    ensures { result ≡ n - e }
-{
-    if n < e { 0 } else { n - e }
-}
-
 pub fn zone_of(c: Config, r: Record) -> Rect
     requires { (in_bounds c ≡ true) × (record_well_formed c r ≡ true) }
     ensures { result ≡ zone c r }
 {
     let f = r.frame;
     let e = c.extrusion;
-    let x = less(f.x, e);
-    let y = less(f.y, e);
+    // The zone's corner is not below 0.
     Rect {
-        x,
-        y,
+        x: f.x.saturating_sub(e),
+        y: f.y.saturating_sub(e),
         w: f.w + 2 * e,
         h: f.h + 2 * e,
     }
@@ -61,8 +53,7 @@ fn local_of(x: u32, corner: u32, side: u32) -> u32
     requires { 1 ≤ side }
     ensures { result ≡ local x corner side }
 {
-    let d = less(x, corner);
-    if d < side { d } else { side - 1 }
+    x.saturating_sub(corner).min(side - 1)
 }
 
 fn box_pixel<'a>(symbols: &'a [u8], wording: &'a [u8], r: Record, x: u32, y: u32) -> Pixel
@@ -123,16 +114,9 @@ pub fn page_past<'a>(l: Layout, symbols: &'a [u8], wording: &'a [u8], page: Page
     requires { well_formed l ≡ true }
     ensures { result ≡ page_past (lent symbols.now wording.now) page (standing l) }
 {
-    let count = l.count;
-    let mut i = 0;
-    while i < count {
-        let r = l.records[i];
-        if on_page_past(symbols, wording, page, r) {
-            return true;
-        }
-        i += 1;
-    }
-    false
+    l.records[..l.count]
+        .iter()
+        .any(|r| on_page_past(symbols, wording, page, *r))
 }
 
 // The earliest frame whose zone holds the pixel shows it.
@@ -148,14 +132,10 @@ fn pixel_at<'a>(
     ensures { result ≡ look_answer (pixel_at l (lent symbols.now wording.now) page x y) none }
 {
     let c = l.config;
-    let count = l.count;
-    let mut i = 0;
-    while i < count {
-        let r = l.records[i];
-        if reaches_pixel(c, page, r, x, y) {
-            return Looked::Shows(frame_pixel(symbols, wording, c, r, x, y));
+    for r in &l.records[..l.count] {
+        if reaches_pixel(c, page, *r, x, y) {
+            return Looked::Shows(frame_pixel(symbols, wording, c, *r, x, y));
         }
-        i += 1;
     }
     Looked::NoPixel
 }
