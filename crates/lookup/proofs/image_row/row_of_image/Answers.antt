@@ -24,10 +24,10 @@ long : (c : Start) → length c.args.l.records ≡ 256
 long c = c.well_formed.0.1.1.1.1.0.1.0.1
 
 -- nothing refuses the row
-passes : (c : In-Done) → let a = c.args in read_refusal a.l (lent a.symbols.now a.wording.now) a.key a.row ≡ none
+passes : (c : In-Done) → let a = c.args in read_refusal a.l (lent a.stores) a.key a.row ≡ none
 passes c = done-read _ _ _ _ (sym c.row_refusal.ensures.value ∙ c.in-Done.is)
 
-asked : (c : In-Done) → let a = c.args in Readable a.l (lent a.symbols.now a.wording.now) a.key a.row
+asked : (c : In-Done) → let a = c.args in Readable a.l (lent a.stores) a.key a.row
 asked c = readable _ _ _ _ (passes c)
 
 full : (c : In-Done) → Formed c.args.l
@@ -81,7 +81,7 @@ pub part_of-requires : goal.part_of-requires
 unfolding blank_record
 part_of-requires c =
     let a = c.args in
-    (omega arith, row_inside a.symbols a.wording (found (goal.at.part_of-requires c).After-find_key) a.row (row_below (goal.at.part_of-requires c).After-find_key) (subst (λ (r : Record). runs_past (lent a.symbols.now a.wording.now) (image_of r) ≡ false) (is (goal.at.part_of-requires c).After-find_key) (asked (goal.at.part_of-requires c).In-Done).inside))
+    (omega arith, row_inside a.symbols a.wording (found (goal.at.part_of-requires c).After-find_key) a.row (row_below (goal.at.part_of-requires c).After-find_key) (subst (λ (r : Record). runs_past (lent a.stores) (image_of r) ≡ false) (is (goal.at.part_of-requires c).After-find_key) (asked (goal.at.part_of-requires c).In-Done).inside))
 
 pub returns-in-Refused : goal.returns-in-Refused
 returns-in-Refused c =

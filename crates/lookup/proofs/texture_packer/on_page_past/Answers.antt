@@ -8,4 +8,4 @@ pub returns : goal.returns
 returns c =
     let a = c.args in
     ap (λ (b : Bool). eqb a.r.page.0 a.page.0 && b)
-    (c.runs_past.ensures ∙ ap (runs_past (lent a.symbols.now a.wording.now)) c.image_of-image.ensures)
+    (c.runs_past.ensures ∙ ap (runs_past (lent a.stores)) c.image_of-image.ensures)

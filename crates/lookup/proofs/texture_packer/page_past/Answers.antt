@@ -15,6 +15,6 @@ pub returns : goal.returns
 unfolding standing
 returns c =
     let a = c.args in
-    let s = lent a.symbols.now a.wording.now in
+    let s = lent a.stores in
     any_from_yields_List (past_here s a.page) _ _ _ c.any.ensures.ran (YieldsList-from_slice _ (search rules)) (λ x b q k. search (rules, tests))
     ∙ past_any s a.page (standing a.l)

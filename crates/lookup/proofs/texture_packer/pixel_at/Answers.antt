@@ -3,6 +3,8 @@ use mathlib.Core.Path.{◌≡◌, refl, sym, ap, ◌∙◌}
 use mathlib.Core.Bool.{true}
 use mathlib.Core.Option.{Option, none}
 use lib.ListN.{length, get_or}
+use Rattle.std.specs.Prelude.{Option as Maybe, Some, Result, Ok}
+use Rattle.records.specs.declared.refusal.Refusal.{Refusal}
 use Rattle.art.specs.declared.memory_rgba8_texture.Pixel.{Pixel}
 use Rattle.records.specs.Settings.{blank_record}
 use Rattle.records.specs.Records.{record_well_formed}
@@ -11,14 +13,12 @@ use Rattle.records.proofs.Rows.{at_in}
 use Rattle.records.proofs.Checks.{Formed, formed, good-holds}
 use Rattle.lookup.specs.Zones.{pixel_at}
 use Rattle.lookup.specs.Looking.{look_answer}
-use Rattle.lookup.specs.declared.texture_packer.Looked.{Looked}
-use Rattle.lookup.specs.declared.texture_packer.Looked.TheVariants.{Shows}
 use Rattle.lookup.proofs.Owners.{reached_on, among_stop, among_more, among_done}
 use Rattle.lookup.proofs.Looking.{page_in_store}
 use Rattle.lookup.proofs.texture_packer.pixel_at.Goals.{Start}
 use Rattle.lookup.proofs.texture_packer.pixel_at.Goals as goal
 
-abbrev answer : Option Pixel → Looked
+abbrev answer : Option Pixel → Result (Maybe Pixel) Refusal
 answer o = look_answer o none
 
 full : (c : Start) → Formed c.args.l
@@ -53,7 +53,7 @@ pub returns-then-reaches_pixel : goal.returns-then-reaches_pixel
 unfolding blank_record standing
 returns-then-reaches_pixel c =
     let l = c.loop-r in
-    ap Shows c.frame_pixel.ensures
+    ap (λ (k : Pixel). Ok (Some k)) c.frame_pixel.ensures
     ∙ ap answer (sym (among_stop _ _ _ _ _ (standing c.args.l) blank_record l.r-index _ _ c.loop-r-test.true refl c.reaches_pixel.ensures c.if-reaches_pixel.true) ∙ l.invariant)
 
 pub loop-r-preserved : goal.loop-r-preserved
