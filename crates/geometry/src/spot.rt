@@ -6,7 +6,7 @@ ghost use Rattle.geometry.specs.Choice.{choice, lowest};
 
 use crate::rect::{Rect, Size};
 
-#[derive(Clone, Copy, PartialEq, Eq)]
+#[derive(Clone, Copy, PartialEq, Eq, PartialOrd, Ord)]
 pub enum Turn {
     Upright,
     Turned,
@@ -33,6 +33,7 @@ pub struct Spot {
 }
 
 // A size as it lies.
+#[tactic(auto, unfolding(crate::specs::Placing::lying))]
 pub fn lying_size(t: Turn, s: Size) -> Size
     ensures { result ≡ lying t s }
 {
@@ -42,40 +43,28 @@ pub fn lying_size(t: Turn, s: Size) -> Size
     }
 }
 
+#[tactic(auto, unfolding(crate::specs::Placing::rank, crate::specs::Words::before))]
 fn ranks_before(a: Spot, b: Spot) -> bool
     ensures { result ≡ before (rank a) (rank b) }
 {
-    if a.bottom != b.bottom {
-        return a.bottom < b.bottom;
-    }
-    if a.segment != b.segment {
-        return a.segment < b.segment;
-    }
-    if a.at.x != b.at.x {
-        return a.at.x < b.at.x;
-    }
-    u32::from(a.turn) < u32::from(b.turn)
+    (a.bottom, a.segment, a.at.x, a.turn) < (b.bottom, b.segment, b.at.x, b.turn)
 }
 
 // The better of two answers, the earlier first.
+#[tactic(auto, unfolding(crate::specs::Choice::choice, crate::specs::Placing::better))]
 pub fn choose(a: Option<Spot>, b: Option<Spot>) -> Option<Spot>
     ensures { result ≡ choice a b }
 {
-    match b {
-        None => a,
-        Some(k) => match a {
-            None => b,
-            Some(j) => { if ranks_before(k, j) { b } else { a } }
-        },
+    match (a, b) {
+        (Some(j), Some(k)) => { if ranks_before(k, j) { b } else { a } }
+        _ => a.or(b),
     }
 }
 
 // How many rows of an area h high are left to a cell that is to rank before what was found.
+#[tactic(auto, unfolding(crate::specs::Choice::lowest))]
 pub fn lowest_end(h: u32, found: Option<Spot>) -> u32
     ensures { result ≡ lowest h found }
 {
-    match found {
-        None => h,
-        Some(k) => { if k.bottom < h { k.bottom + 1 } else { h } }
-    }
+    found.map_or(h, |k| h.min(k.bottom.saturating_add(1)))
 }
