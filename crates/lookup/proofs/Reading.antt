@@ -6,7 +6,7 @@ use mathlib.Core.Path.{◌≡◌, refl, sym, ap, ◌∙◌, subst}
 use mathlib.Core.Bool.{true, false}
 use mathlib.Core.List.{List}
 use mathlib.Core.Option.{Option, none, some}
-use lib.ListN.{length, get_or}
+use lib.ListN.{length, get_or, take, drop}
 use denote.Ref.{Bor}
 use Rattle.geometry.specs.Words.{any, or_else}
 use Rattle.art.specs.Stores.{Stores, lent, of_store, bytes_of, runs_past, place_of}
@@ -78,6 +78,16 @@ row_is r y =
     let p : row_start r y ≡ r.offset + 4 * (y * r.source.w + 0) = omega arith in
     let q : row_start r y + 4 * r.source.w - row_start r y ≡ 4 * r.source.w = omega arith in
     λ i. record { store = r.store; start = p i; size = q i }
+
+-- a part of the row's store, from the row's start to its end
+pub row_part_is : (stores : LentStores) (r : Record) (y : ℕ) (store : Bor (List ℕ)) → store ≡ of_store r.store stores.symbols stores.wording
+    → IsPart stores (record { store = r.store; start = row_start r y; size = row_start r y + 4 * r.source.w - row_start r y })
+    (record { ref_ptr = (store.ref_ptr.0, row_start r y + store.ref_ptr.1); now = take (row_start r y + 4 * r.source.w - row_start r y) (drop (row_start r y) store.now) })
+row_part_is stores r y store e = record {
+  block = ap (λ (b : Bor (List ℕ)). b.ref_ptr.0) e;
+  place = ap (λ (b : Bor (List ℕ)). row_start r y + b.ref_ptr.1) e;
+  bytes = ap (λ (b : Bor (List ℕ)). take (row_start r y + 4 * r.source.w - row_start r y) (drop (row_start r y) b.now)) e;
+}
 
 module _ (l : Layout) (s : Stores) (k : Key) (y : ℕ) (stores : LentStores) (handed : Bor (List ℕ)) where
   pub empty-handed : {q : Refusal} → read_refusal l s k y ≡ some q → IsPart stores (record { store = Symbols; start = 0; size = 0 }) handed

@@ -39,7 +39,7 @@ fn reaches_pixel(c: Config, page: Page, r: Record, x: u32, y: u32) -> bool
     ensures { result ≡ reaches c page x y r }
 {
     let z = zone_of(c, r);
-    (r.page.0 == page.0) & z.contains_point(x, y)
+    (r.page == page) & z.contains_point(x, y)
 }
 
 fn local_of(x: u32, corner: u32, side: u32) -> u32
@@ -92,7 +92,7 @@ fn on_page_past(stores: Stores<'_>, page: Page, r: Record) -> bool
     ensures { result ≡ (eqb r.page.0 page.0 && runs_past (lent stores.entry) (image_of r)) }
 {
     let image = frame::image_of(r);
-    (r.page.0 == page.0) & memory_rgba8_texture::runs_past(stores, image)
+    (r.page == page) & memory_rgba8_texture::runs_past(stores, image)
 }
 
 // 5: whether any image on that page runs past its store.
