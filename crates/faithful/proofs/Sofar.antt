@@ -1,4 +1,5 @@
 -- The standing records replayed one after the other. Assumes nothing.
+use Rattle.std.specs.Prelude.{Some, None}
 use Prim.Native.Nat.{ℕ, max, ◌+◌, ◌≤◌, ◌<◌}
 use mathlib.Core.Path.{◌≡◌, refl, sym, ap, ◌∙◌, subst}
 use mathlib.Core.Bool.{Bool, true, false, ◌&&◌}
@@ -21,7 +22,7 @@ use Rattle.pages.specs.Pages.{Stands, Fresh}
 use Rattle.pages.proofs.Pages.{fresh_stands}
 use Rattle.rules.specs.Placing.{canvas, cells_on, placed}
 use Rattle.rules.specs.Faithful.{art_of, same_spot, placed_so}
-use Rattle.faithful.specs.Replay.{Skies, Replayed, Ran}
+use Rattle.faithful.specs.Replay.{Skies, Replayed, pages_if, Ran}
 
 -- the part of the replay that is done: what is left decides, and the skylines are those of the records so far
 pub record Sofar (l : Layout) (i pages : ℕ) (xs ys ns : List ℕ) : Type 0 where
@@ -68,11 +69,11 @@ module _ (l : Layout) (f : Formed l) where
         ∙ ap (λ (z : Bool). z && placed_so l.config (take i rs ++ at i ∷ []) (drop (i + 1) rs)) (sym e)
         ∙ ap (λ (z : List Record). b && placed_so l.config z (drop (i + 1) rs)) (sym next)
 
-    pub sofar_stop : (pages : ℕ) (xs ys ns xs' ys' ns' : List ℕ) (so : Bool) → so ≡ false → Sofar l i pages xs ys ns
-        → Replayed l.config (take i rs) (at i) so xs' ys' ns' → Ran l (record { so = false; pages = pages }) xs' ys' ns'
-    sofar_stop pages xs ys ns xs' ys' ns' so e sf rp = record {
-      so = sym (sym sf.passed ∙ step false (sym e ∙ rp.same));
-      skies = λ q. let z : ◌≡◌ {A = ℕ} 0 1 = cc in absurd (omega arith);
+    pub sofar_stop : {pages : ℕ} (xs ys ns xs' ys' ns' : List ℕ) (so : Bool) → so ≡ false → Sofar l i pages xs ys ns
+        → Replayed l.config (take i rs) (at i) so xs' ys' ns' → Ran l None xs' ys' ns'
+    sofar_stop xs ys ns xs' ys' ns' so e sf rp = record {
+      is = sym (ap (λ (z : Bool). pages_if z l) (sym sf.passed ∙ step false (sym e ∙ rp.same)));
+      skies = λ p q. absurd (cc);
     }
 
     pub sofar_more : (pages pages' : ℕ) (xs ys ns xs' ys' ns' : List ℕ) (so : Bool) → so ≡ true → Sofar l i pages xs ys ns
@@ -88,11 +89,12 @@ module _ (l : Layout) (f : Formed l) where
       pages_few = let g = f.at i h in omega (arith, g.page, f.config.pages_few, sf.pages_few);
     }
 
-  pub sofar_done : (i pages : ℕ) (xs ys ns : List ℕ) → i ≡ length rs → Sofar l i pages xs ys ns → Ran l (record { so = true; pages = pages }) xs ys ns
+  pub sofar_done : (i pages : ℕ) (xs ys ns : List ℕ) → i ≡ length rs → Sofar l i pages xs ys ns → Ran l (Some pages) xs ys ns
   unfolding placed_so
   sofar_done i pages xs ys ns e sf =
       let b : drop i rs ≡ [] = ap (λ (k : ℕ). drop k rs) e ∙ drop-length rs in
+      let sk = subst (λ (z : List Record). Skies l.config z pages xs ys ns) (take_all i rs (omega arith)) sf.skies in
       record {
-        so = sym (ap (placed_so l.config (take i rs)) b) ∙ sf.passed;
-        skies = λ q. subst (λ (z : List Record). Skies l.config z pages xs ys ns) (take_all i rs (omega arith)) sf.skies;
+        is = ap Some sk.count ∙ ap (λ (z : Bool). pages_if z l) (sym (ap (placed_so l.config (take i rs)) b) ∙ sf.passed);
+        skies = λ p q. let z : pages ≡ p = cc in subst (λ (n : ℕ). Skies l.config rs n xs ys ns) z sk;
       }

@@ -1,30 +1,29 @@
 -- Keys that differ, whole boxes, and 2 and 3 together: the code's tests are the definitions'. Assumes nothing.
 use Prim.Native.Nat.{ℕ, ◌+◌, ◌<◌}
-use mathlib.Core.Path.{◌≡◌, refl, sym, ap, ◌∙◌, subst}
+use mathlib.Core.Path.{◌≡◌, refl, sym, ap, ◌∙◌}
 use mathlib.Core.Bool.{Bool, true, false, cond, not, ◌&&◌, ◌||◌}
 use mathlib.Core.List.{List, [], ◌∷◌, ◌++◌, map}
-use native.Mathlib.Omega.{arith}
 use native.Mathlib.Numerals.{add-one}
 use lib.ListN.{length, get_or, take, drop, set}
 use lib.Seq.{drop-length, take-suc, take-suc-set}
 use lib.Dec.{eqb}
 use Rattle.std.specs.List.{list_any, list_all}
 use Rattle.geometry.specs.Words.{all_of, all, any}
-use Rattle.geometry.specs.declared.rect.Rect.{Rect}
-use Rattle.geometry.specs.declared.rect.Size.{Size}
-use Rattle.geometry.proofs.Words.{not_both, and_no_left, and_no_right}
+use Rattle.geometry.proofs.Words.{and_no_left, and_no_right}
 use Rattle.records.specs.declared.texture_packer_config.Config.{Config}
 use Rattle.records.specs.declared.frame.Record.{Record}
 use Rattle.records.specs.declared.layout.Layout.{Layout}
-use Rattle.records.specs.Records.{whole_of, box_of}
 use Rattle.records.specs.Layouts.{standing, well_formed, has_key, page_count}
-use Rattle.records.proofs.Rows.{and_true}
+use Rattle.records.proofs.Rows.{hit, skipped, and_true}
 use Rattle.records.proofs.Standing.{rest_next}
 use Rattle.rules.specs.Faithful.{keys_differ, placed_so, whole_if_untrimmed, faithful}
-use Rattle.faithful.specs.Replay.{distinct, key_of, Skies, Ran, Tested, trust, Trusted}
-use Rattle.faithful.specs.declared.replaying.Stand.{Stand}
-use Rattle.faithful.specs.declared.trust.Trust.{Trust}
-use Rattle.faithful.specs.declared.trust.Trust.TheVariants.{Unformed, Unfaithful, StandsOn}
+use Rattle.faithful.specs.Replay.{distinct, key_of, Skies, pages_if, Ran, Tested, trust, Trusted}
+use Rattle.records.specs.Refusals.{Row, first_refusal}
+use Rattle.records.specs.declared.refusal.Refusal.{Refusal}
+use Rattle.records.specs.declared.refusal.Refusal.TheVariants.{NotWellFormed, NotFaithful}
+use mathlib.Core.Option.{some}
+use Rattle.std.specs.Prelude.{Option, Some, None, Result, Ok, Err}
+use Rattle.std.specs.Option.{ok_or}
 use Rattle.rules.proofs.Pages.{map_snoc}
 
 -- ## a loop over a list, from a place on
@@ -81,31 +80,32 @@ keys_more rs d keys i h m e =
 
 -- ## the three tests
 
-module _ (l : Layout) (xs ys ns : List ℕ) where
-  pub test_keys : (b : Bool) → b ≡ keys_differ (standing l) → b ≡ false → Tested l (record { so = false; pages = 0 }) xs ys ns
+module _ (l : Layout) where
+  pub unlike_keys : keys_differ (standing l) ≡ false → faithful l ≡ false
   unfolding faithful all_of
-  test_keys b e f = record {
-    so = sym (and_no_left (keys_differ (standing l)) (placed_so l.config [] (standing l) && (all (whole_if_untrimmed l.config) (standing l) && true)) (sym e ∙ f));
-    skies = λ q. absurd (not_both q refl);
-  }
+  unlike_keys e = and_no_left (keys_differ (standing l)) (placed_so l.config [] (standing l) && (all (whole_if_untrimmed l.config) (standing l) && true)) e
 
-  pub test_whole : (b : Bool) → b ≡ all (whole_if_untrimmed l.config) (standing l) → b ≡ false → Tested l (record { so = false; pages = 0 }) xs ys ns
+  pub unlike_boxes : all (whole_if_untrimmed l.config) (standing l) ≡ false → faithful l ≡ false
   unfolding faithful all_of
-  test_whole b e f = record {
-    so = sym (and_no_right (keys_differ (standing l)) (placed_so l.config [] (standing l) && (all (whole_if_untrimmed l.config) (standing l) && true))
-        (and_no_right (placed_so l.config [] (standing l)) (all (whole_if_untrimmed l.config) (standing l) && true)
-        (and_no_left (all (whole_if_untrimmed l.config) (standing l)) true (sym e ∙ f))));
-    skies = λ q. absurd (not_both q refl);
-  }
+  unlike_boxes e =
+      and_no_right (keys_differ (standing l)) (placed_so l.config [] (standing l) && (all (whole_if_untrimmed l.config) (standing l) && true))
+      (and_no_right (placed_so l.config [] (standing l)) (all (whole_if_untrimmed l.config) (standing l) && true)
+      (and_no_left (all (whole_if_untrimmed l.config) (standing l)) true e))
 
-  pub test_all : (a b : Bool) (r : Stand) → a ≡ keys_differ (standing l) → a ≡ true → b ≡ all (whole_if_untrimmed l.config) (standing l) → b ≡ true → Ran l r xs ys ns → Tested l r xs ys ns
-  unfolding faithful all_of
-  test_all a b r ea ta eb tb rn = record {
-    so = rn.so ∙ and_true (placed_so l.config [] (standing l))
-        ∙ ap (λ (z : Bool). placed_so l.config [] (standing l) && (z && true)) (sym tb ∙ eb)
-        ∙ ap (λ (z : Bool). z && (placed_so l.config [] (standing l) && (all (whole_if_untrimmed l.config) (standing l) && true))) (sym ta ∙ ea);
-    skies = rn.skies;
-  }
+  module _ (xs ys ns : List ℕ) where
+    pub test_none : faithful l ≡ false → Tested l None xs ys ns
+    test_none e = record { is = sym (ap (λ (z : Bool). pages_if z l) e); skies = λ p q. absurd (cc) }
+
+    pub test_all : (r : Option ℕ) → keys_differ (standing l) ≡ true → all (whole_if_untrimmed l.config) (standing l) ≡ true → Ran l r xs ys ns → Tested l r xs ys ns
+    unfolding faithful all_of
+    test_all r k w rn = record {
+      is = rn.is
+          ∙ ap (λ (z : Bool). pages_if z l)
+          (and_true (placed_so l.config [] (standing l))
+          ∙ ap (λ (z : Bool). placed_so l.config [] (standing l) && (z && true)) (sym w)
+          ∙ ap (λ (z : Bool). z && (placed_so l.config [] (standing l) && (all (whole_if_untrimmed l.config) (standing l) && true))) (sym k));
+      skies = rn.skies;
+    }
 
 -- ## a box that is the whole image
 
@@ -113,83 +113,51 @@ pub whole_trim : (c : Config) (r : Record) → c.trim ≡ true → true ≡ whol
 unfolding whole_if_untrimmed
 whole_trim c r e = rw e
 
-and_four : (p q r s : Bool) → (((p && q) && r) && s) ≡ (p && (q && (r && (s && true))))
-and_four true true true true = refl
-and_four true true true false = refl
-and_four true true false s = refl
-and_four true false r s = refl
-and_four false q r s = refl
-
-pub whole_row : (c : Config) (r : Record) (k : Rect) (s : Size) → c.trim ≡ false → k ≡ box_of r → s ≡ whole_of r
-    → (((eqb k.x 0 && eqb k.y 0) && eqb k.w s.w) && eqb k.h s.h) ≡ whole_if_untrimmed c r
-unfolding whole_if_untrimmed all_of whole_of
-whole_row c r k s e ek es =
-    and_four (eqb k.x 0) (eqb k.y 0) (eqb k.w s.w) (eqb k.h s.h)
-    ∙ ap (λ (z : Rect). eqb z.x 0 && (eqb z.y 0 && (eqb z.w s.w && (eqb z.h s.h && true)))) ek
-    ∙ ap (λ (z : Size). eqb (box_of r).x 0 && (eqb (box_of r).y 0 && (eqb (box_of r).w z.w && (eqb (box_of r).h z.h && true)))) es
-    ∙ ap (λ (t : Bool). t || (eqb (box_of r).x 0 && (eqb (box_of r).y 0 && (eqb (box_of r).w r.source.w && (eqb (box_of r).h r.source.h && true))))) (sym e)
-
+-- TODO
 -- ## 2 and 3
 
-module _ (l : Layout) where
-  module _ (xs ys ns : List ℕ) where
-    pub trust-unformed : (b : Bool) → b ≡ well_formed l → b ≡ false → Trusted l Unformed xs ys ns
-    unfolding trust
-    trust-unformed b e f = record {
-      is = rw (sym e ∙ f);
-      skies = λ p q. let z : ◌≡◌ {A = ℕ} 0 1 = cc in absurd (omega arith);
-    }
+module _ (l : Layout) (xs ys ns : List ℕ) where
+  pub trust-unformed : well_formed l ≡ false → Trusted l (Err NotWellFormed) xs ys ns
+  unfolding trust
+  trust-unformed e = record { is = rw e; skies = λ p q. absurd (cc) }
 
-    pub trust-not : (b : Bool) (s : Stand) → b ≡ well_formed l → b ≡ true → Tested l s xs ys ns → s.so ≡ false → Trusted l Unfaithful xs ys ns
-    unfolding trust
-    trust-not b s e f t g = record {
-      is = rw (sym e ∙ f, sym t.so ∙ g);
-      skies = λ p q. let z : ◌≡◌ {A = ℕ} 0 1 = cc in absurd (omega arith);
-    }
+  pub trust-tested : (s : Option ℕ) → well_formed l ≡ true → Tested l s xs ys ns → Trusted l (ok_or s NotFaithful) xs ys ns
+  unfolding trust
+  trust-tested s e t = record { is = ap (λ (z : Option ℕ). ok_or z NotFaithful) t.is ∙ go (faithful l) ∙ rw e; skies = keeps s t.skies }
+    where
+      go : (b : Bool) → ok_or (pages_if b l) NotFaithful ≡ cond b (Ok (page_count (standing l))) (Err NotFaithful)
+      go true = refl
+      go false = refl
 
-    pub trust_on : (b : Bool) (s : Stand) → b ≡ well_formed l → b ≡ true → Tested l s xs ys ns → s.so ≡ true → Trusted l (StandsOn s.pages) xs ys ns
-    unfolding trust
-    trust_on b s e f t g = record {
-      is = rw (sym e ∙ f, sym t.so ∙ g) (ap StandsOn (t.skies g).count);
-      skies = λ p q. let z : s.pages ≡ p = cc in subst (λ (n : ℕ). Skies l.config (standing l) n xs ys ns) z (t.skies g);
-    }
+      keeps : (s : Option ℕ) → ((p : ℕ) → s ≡ Some p → Skies l.config (standing l) p xs ys ns) → (p : ℕ) → ok_or s NotFaithful ≡ Ok p → Skies l.config (standing l) p xs ys ns
+      keeps None h p q = absurd (cc)
+      keeps (Some n) h p q = h p (cc)
 
 -- ## what the answer says of the layout
 
-module _ (l : Layout) (t : Trust) (e : t ≡ trust l) where
-  told : (w : Bool) → well_formed l ≡ w → (f : Bool) → faithful l ≡ f → t ≡ cond w (cond f (StandsOn (page_count (standing l))) Unfaithful) Unformed
+module _ (l : Layout) (t : Result ℕ Refusal) (e : t ≡ trust l) where
+  told : (w : Bool) → well_formed l ≡ w → (f : Bool) → faithful l ≡ f → t ≡ cond w (cond f (Ok (page_count (standing l))) (Err NotFaithful)) (Err NotWellFormed)
   unfolding trust
-  told w ew f ef = e ∙ ap (λ (z : Bool). cond z (cond (faithful l) (StandsOn (page_count (standing l))) Unfaithful) Unformed) ew
-      ∙ ap (λ (z : Bool). cond w (cond z (StandsOn (page_count (standing l))) Unfaithful) Unformed) ef
+  told w ew f ef = e ∙ ap (λ (z : Bool). cond z (cond (faithful l) (Ok (page_count (standing l))) (Err NotFaithful)) (Err NotWellFormed)) ew
+      ∙ ap (λ (z : Bool). cond w (cond z (Ok (page_count (standing l))) (Err NotFaithful)) (Err NotWellFormed)) ef
 
-  pub unformed : t ≡ Unformed → well_formed l ≡ false
-  unformed q = go (well_formed l) refl (faithful l) refl
+  -- which of 2 and 3 was first to hold
+  pub distrusted : (n : Refusal) → t ≡ Err n → (rest : Row) → first_refusal ((not (well_formed l), NotWellFormed) ∷ (not (faithful l), NotFaithful) ∷ rest) ≡ some n
+  distrusted n q rest = go (well_formed l) refl (faithful l) refl
     where
-      go : (w : Bool) → well_formed l ≡ w → (f : Bool) → faithful l ≡ f → well_formed l ≡ false
-      go false ew f ef = ew
-      go true ew true ef = let z = told true ew true ef in let y : ◌≡◌ {A = ℕ} 0 1 = cc in absurd (omega arith)
-      go true ew false ef = let z = told true ew false ef in let y : ◌≡◌ {A = ℕ} 0 1 = cc in absurd (omega arith)
-
-  pub record Formed3 : Type 0 where
-    pub formed : well_formed l ≡ true
-    pub unfaithful : faithful l ≡ false
-
-  pub not-faithful : t ≡ Unfaithful → Formed3
-  not-faithful q = go (well_formed l) refl (faithful l) refl
-    where
-      go : (w : Bool) → well_formed l ≡ w → (f : Bool) → faithful l ≡ f → Formed3
-      go false ew f ef = let z = told false ew f ef in let y : ◌≡◌ {A = ℕ} 0 1 = cc in absurd (omega arith)
-      go true ew true ef = let z = told true ew true ef in let y : ◌≡◌ {A = ℕ} 0 1 = cc in absurd (omega arith)
-      go true ew false ef = record { formed = ew; unfaithful = ef }
+      go : (w : Bool) → well_formed l ≡ w → (f : Bool) → faithful l ≡ f → first_refusal ((not (well_formed l), NotWellFormed) ∷ (not (faithful l), NotFaithful) ∷ rest) ≡ some n
+      go false ew f ef = let z = told false ew f ef in let y : NotWellFormed ≡ n = cc in hit _ NotWellFormed _ (ap not ew) ∙ ap some y
+      go true ew true ef = let z = told true ew true ef in absurd (cc)
+      go true ew false ef = let z = told true ew false ef in let y : NotFaithful ≡ n = cc in skipped _ NotWellFormed _ (ap not ew) ∙ hit _ NotFaithful _ (ap not ef) ∙ ap some y
 
   pub record Formed2 : Type 0 where
     pub formed : well_formed l ≡ true
     pub is-faithful : faithful l ≡ true
 
-  pub stands_on : (p : ℕ) → t ≡ StandsOn p → Formed2
+  pub stands_on : (p : ℕ) → t ≡ Ok p → Formed2
   stands_on p q = go (well_formed l) refl (faithful l) refl
     where
       go : (w : Bool) → well_formed l ≡ w → (f : Bool) → faithful l ≡ f → Formed2
-      go false ew f ef = let z = told false ew f ef in let y : ◌≡◌ {A = ℕ} 0 1 = cc in absurd (omega arith)
+      go false ew f ef = let z = told false ew f ef in absurd (cc)
       go true ew true ef = record { formed = ew; is-faithful = ef }
-      go true ew false ef = let z = told true ew false ef in let y : ◌≡◌ {A = ℕ} 0 1 = cc in absurd (omega arith)
+      go true ew false ef = let z = told true ew false ef in absurd (cc)

@@ -8,18 +8,12 @@ ghost use Rattle.rules.specs.Faithful.{keys_differ, whole_if_untrimmed};
 ghost use Rattle.faithful.specs.Replay.{distinct, key_of, Tested, Trusted};
 
 use crate::replaying;
-use crate::replaying::Stand;
+use geometry::rect::Rect;
 use records::frame::Record;
 use records::layout::Layout;
+use records::refusal::Refusal;
 use records::texture_packer_config::Config;
 use records::{frame, layout};
-
-#[derive(Clone, Copy)]
-pub enum Trust {
-    Unformed,
-    Unfaithful,
-    StandsOn(usize),
-}
 
 fn all_differ(keys: &[u32]) -> bool
     ensures { result ≡ distinct keys.now }
@@ -52,15 +46,12 @@ fn keys_differ(l: Layout) -> bool
     all_differ(&keys[..standing.len()])
 }
 
+#[tactic(auto, unfolding(rules::specs::Faithful::whole_if_untrimmed, geometry::specs::Words::all_of, records::specs::Records::whole_of))]
 fn whole_if_untrimmed(c: Config, r: Record) -> bool
     ensures { result ≡ whole_if_untrimmed c r }
 {
-    if c.trim {
-        return true;
-    }
-    let k = frame::box_of(r);
     let s = frame::whole_of(r);
-    (k.x == 0) & (k.y == 0) & (k.w == s.w) & (k.h == s.h)
+    c.trim || frame::box_of(r) == Rect::new(0, 0, s.w, s.h)
 }
 
 fn all_whole(l: Layout) -> bool
@@ -71,38 +62,29 @@ fn all_whole(l: Layout) -> bool
     standing.iter().all(|r| whole_if_untrimmed(l.config, *r))
 }
 
-// Whether the layout is faithful; if it is, the skylines of its pages and their number.
-fn is_faithful(l: Layout, xs: &mut [u32], ys: &mut [u32], ns: &mut [usize]) -> Stand
+// The number of the layout's pages if it is faithful, and their skylines.
+fn is_faithful(l: Layout, xs: &mut [u32], ys: &mut [u32], ns: &mut [usize]) -> Option<usize>
     requires l_value { well_formed l ≡ true }
     requires long { Long xs.old ys.old ns.old }
     ensures { Tested l result xs.new ys.new ns.new }
 {
-    if !keys_differ(l) {
-        return Stand {
-            so: false,
-            pages: 0,
-        };
-    }
-    if !all_whole(l) {
-        return Stand {
-            so: false,
-            pages: 0,
-        };
+    if !keys_differ(l) || !all_whole(l) {
+        return None;
     }
     replaying::replay(l, xs, ys, ns)
 }
 
-pub fn trusted(l: Layout, xs: &mut [u32], ys: &mut [u32], ns: &mut [usize]) -> Trust
+pub fn trusted(
+    l: Layout,
+    xs: &mut [u32],
+    ys: &mut [u32],
+    ns: &mut [usize],
+) -> Result<usize, Refusal>
     requires { Long xs.old ys.old ns.old }
     ensures { Trusted l result xs.new ys.new ns.new }
 {
     if !layout::well_formed(l) {
-        return Trust::Unformed;
+        return Err(Refusal::NotWellFormed);
     }
-    let s = is_faithful(l, xs, ys, ns);
-    if s.so {
-        Trust::StandsOn(s.pages)
-    } else {
-        Trust::Unfaithful
-    }
+    is_faithful(l, xs, ys, ns).ok_or(Refusal::NotFaithful)
 }

@@ -34,7 +34,7 @@ pub returns-then-not-replay_one : goal.returns-then-not-replay_one
 unfolding standing blank_record
 returns-then-not-replay_one c =
     let l = c.loop-r in
-    sofar_stop c.args.l (form (goal.at.returns-then-not-replay_one c).Start) l.r-index c.loop-r-test.true l.pages _ _ _ _ _ _ _ c.if-not-replay_one.true l.invariant
+    sofar_stop c.args.l (form (goal.at.returns-then-not-replay_one c).Start) l.r-index c.loop-r-test.true _ _ _ _ _ _ _ c.if-not-replay_one.true l.invariant
     (c.replay_one.ensures _ l.invariant.skies)
 
 pub loop-r-preserved : goal.loop-r-preserved
