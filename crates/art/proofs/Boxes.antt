@@ -9,7 +9,7 @@ use Rattle.geometry.specs.declared.rect.Rect.{Rect}
 use Rattle.art.specs.Stores.{Stores}
 use Rattle.art.specs.Trimming.{visible, column_visible, row_visible, all_clear, first_seen, past_seen, smallest_box, trimmed_to}
 use Rattle.art.specs.declared.memory_rgba8_texture.Image.{Image}
-use Rattle.art.specs.declared.trim.Trimmed.TheVariants.{AllClear, To}
+use Rattle.std.specs.Prelude.{Some, None}
 use Rattle.art.proofs.Seen.{seen, some_seen, not_seen, by_columns, Ends, ends, first-none}
 
 module _ (s : Stores) (i : Image) where
@@ -79,10 +79,10 @@ module _ (s : Stores) (i : Image) where
   unfolding smallest_box
   box_is left right top bottom l r t b = λ j. record { x = l j; y = t j; w = r j - l j; h = b j - t j }
 
-  pub clear-answer : all_clear s i ≡ true → trimmed_to s i ≡ AllClear
+  pub clear-answer : all_clear s i ≡ true → trimmed_to s i ≡ None
   unfolding trimmed_to
   clear-answer e = rw e
 
-  pub box_answer : all_clear s i ≡ false → (k : Rect) → k ≡ smallest_box s i → trimmed_to s i ≡ To k
+  pub box_answer : all_clear s i ≡ false → (k : Rect) → k ≡ smallest_box s i → trimmed_to s i ≡ Some k
   unfolding trimmed_to
   box_answer e k q = rw (e, q)

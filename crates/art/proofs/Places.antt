@@ -12,13 +12,14 @@ use borrow.Author.Tests.{lt-ltb, le-ltb, ltb-true, ltb-false}
 use Rattle.art.specs.Stores.{Stores, lent, of_store, bytes_of, runs_past, place_of}
 use Rattle.art.specs.declared.memory_rgba8_texture.Image.{Image}
 use Rattle.art.specs.declared.memory_rgba8_texture.Store.{Store}
+use Rattle.art.specs.declared.memory_rgba8_texture.Stores.{Stores as LentStores}
 use Rattle.art.specs.declared.memory_rgba8_texture.Store.TheVariants.{Symbols, Wording}
 
--- the bytes of the store that `store_of` gives
-pub bytes_now : (store : Store) (symbols wording r : Bor (List ℕ)) → r ≡ of_store store symbols wording → r.now ≡ bytes_of (lent symbols.now wording.now) store
+-- the bytes of the store that `Stores::of` gives
+pub bytes_now : (s : LentStores) (store : Store) (r : Bor (List ℕ)) → r ≡ of_store store s.symbols s.wording → r.now ≡ bytes_of (lent s) store
 unfolding bytes_of
-bytes_now Symbols symbols wording r e = ap (λ x. x.now) e
-bytes_now Wording symbols wording r e = ap (λ x. x.now) e
+bytes_now s Symbols r e = ap (λ x. x.now) e
+bytes_now s Wording r e = ap (λ x. x.now) e
 
 -- the area of an image counts in 64 bits
 pub area-fits : (w h : ℕ) → w < 2 ^ 32 → h < 2 ^ 32 → w * h < 2 ^ 64

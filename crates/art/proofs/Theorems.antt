@@ -12,8 +12,7 @@ use Rattle.art.specs.Trimming.{visible, column_visible, row_visible, all_clear, 
 use Rattle.art.specs.declared.memory_rgba8_texture.Image.{Image}
 use Rattle.art.specs.declared.memory_rgba8_texture.Pixel.{Pixel}
 use Rattle.art.specs.declared.memory_rgba8_texture.Store.{Store}
-use Rattle.art.specs.declared.trim.Trimmed.{Trimmed}
-use Rattle.art.specs.declared.trim.Trimmed.TheVariants.{AllClear, To}
+use Rattle.std.specs.Prelude.{Option, Some, None}
 use Rattle.geometry.proofs.Words.{not_both}
 use Rattle.geometry.proofs.Rects.{point_in, in_point, rect_in, same-rect}
 use Rattle.art.proofs.Seen.{some_seen, first-le, past_gt, past_le}
@@ -118,35 +117,35 @@ module _ (s : Stores) (i : Image) where
 
   -- ## what the answer of `trim_texture` says
 
-  pub answered_clear : trimmed_to s i ≡ AllClear → all_clear s i ≡ true
+  pub answered_clear : trimmed_to s i ≡ None → all_clear s i ≡ true
   unfolding trimmed_to
   answered_clear e = go (all_clear s i) e
     where
-      go : (b : Bool) → cond b AllClear (To (smallest_box s i)) ≡ AllClear → b ≡ true
+      go : (b : Bool) → cond b None (Some (smallest_box s i)) ≡ None → b ≡ true
       go true q = refl
       go false q = cc
 
-  pub answered_box : (k : Rect) → trimmed_to s i ≡ To k → (all_clear s i ≡ false) × (k ≡ smallest_box s i)
+  pub answered_box : (k : Rect) → trimmed_to s i ≡ Some k → (all_clear s i ≡ false) × (k ≡ smallest_box s i)
   unfolding trimmed_to
   answered_box k e = go (all_clear s i) e
     where
-      go : (b : Bool) → cond b AllClear (To (smallest_box s i)) ≡ To k → (b ≡ false) × (k ≡ smallest_box s i)
+      go : (b : Bool) → cond b None (Some (smallest_box s i)) ≡ Some k → (b ≡ false) × (k ≡ smallest_box s i)
       go true q = let z : ◌≡◌ {A = ℕ} 0 1 = cc in absurd (omega arith)
       go false q = (refl, cc)
 
 -- ## "a definition gives this paper's number and values for each of its cases"
 
 -- and no two answers have the same number and values
-pub numbers_tell : (r q : Trimmed) → trimmed_numbers r ≡ trimmed_numbers q → r ≡ q
-numbers_tell AllClear AllClear e = refl
-numbers_tell AllClear (To k) e = let z : ◌≡◌ {A = ℕ} 7 0 = cc in absurd (omega arith)
-numbers_tell (To k) AllClear e = let z : ◌≡◌ {A = ℕ} 0 7 = cc in absurd (omega arith)
-numbers_tell (To k) (To j) e =
+pub numbers_tell : (r q : Option Rect) → trimmed_numbers r ≡ trimmed_numbers q → r ≡ q
+numbers_tell None None e = refl
+numbers_tell None (Some k) e = let z : ◌≡◌ {A = ℕ} 7 0 = cc in absurd (omega arith)
+numbers_tell (Some k) None e = let z : ◌≡◌ {A = ℕ} 0 7 = cc in absurd (omega arith)
+numbers_tell (Some k) (Some j) e =
     let x : k.x ≡ j.x = cc in
     let y : k.y ≡ j.y = cc in
     let w : k.w ≡ j.w = cc in
     let h : k.h ≡ j.h = cc in
-    λ i. To (record { x = x i; y = y i; w = w i; h = h i })
+    λ i. Some (record { x = x i; y = y i; w = w i; h = h i })
 
 -- ## "any two results allowed for one input are shown equal"
 
@@ -157,7 +156,7 @@ module _ (s : Stores) (i : Image) where
   pub one_past : {r q : Bool} → r ≡ runs_past s i → q ≡ runs_past s i → r ≡ q
   one_past = one (runs_past s i)
 
-  pub one_trim : {r q : Trimmed} → r ≡ trimmed_to s i → q ≡ trimmed_to s i → r ≡ q
+  pub one_trim : {r q : Option Rect} → r ≡ trimmed_to s i → q ≡ trimmed_to s i → r ≡ q
   one_trim = one (trimmed_to s i)
 
   pub one_pixel : (x y : ℕ) {r q : Pixel} → r ≡ pixel_in s i x y → q ≡ pixel_in s i x y → r ≡ q

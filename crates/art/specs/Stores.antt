@@ -4,6 +4,7 @@ use Rattle.std.specs.Prelude.{ℕ, ◌+◌, ◌*◌, ◌-◌, ◌≤◌, ◌≡�
 use Rattle.geometry.specs.declared.rect.Rect.{Rect}
 use Rattle.art.specs.declared.memory_rgba8_texture.Image.{Image}
 use Rattle.art.specs.declared.memory_rgba8_texture.Pixel.{Pixel}
+use Rattle.art.specs.declared.memory_rgba8_texture.Stores.{Stores as LentStores}
 use Rattle.art.specs.declared.memory_rgba8_texture.Store.{Store}
 use Rattle.art.specs.declared.memory_rgba8_texture.Store.TheVariants.{Symbols, Wording}
 
@@ -12,8 +13,12 @@ pub record Stores : Type 0 where
   pub symbols : List ℕ
   pub wording : List ℕ
 
-abbrev pub lent : List ℕ → List ℕ → Stores
-lent symbols wording = record { symbols = symbols; wording = wording }
+abbrev pub holding : List ℕ → List ℕ → Stores
+holding symbols wording = record { symbols = symbols; wording = wording }
+
+-- what the lent ones hold
+abbrev pub lent : LentStores → Stores
+lent s = holding s.symbols.now s.wording.now
 
 -- of what the symbol store and the wording store have, what the store of a case has
 abbrev pub of_store : {A : Type 0} → Store → A → A → A

@@ -3,7 +3,7 @@
 use Rattle.std.specs.Prelude.{ℕ, zero, suc, ◌^◌, Bool, true, false, cond, List, [], ◌∷◌, ◌++◌, map, replicate}
 use Rattle.geometry.specs.Words.{from}
 use Rattle.geometry.specs.declared.rect.Rect.{Rect}
-use Rattle.art.specs.Stores.{Stores, lent, runs_past, pixel_in, upright_pixel, turned_pixel}
+use Rattle.art.specs.Stores.{Stores, holding, runs_past, pixel_in, upright_pixel, turned_pixel}
 use Rattle.art.specs.Trimming.{trim_box, trimmed_to, trimmed_numbers}
 use Rattle.art.specs.declared.memory_rgba8_texture.Image.{Image}
 use Rattle.art.specs.declared.memory_rgba8_texture.Pixel.{Pixel}
@@ -39,11 +39,11 @@ shown alpha = 0 ∷ 0 ∷ 0 ∷ alpha ∷ []
 
 -- byte n of the symbol store is n; the wording store has the same bytes after three others
 unfoldable pub counting : Stores
-counting = lent (from 0 80) (255 ∷ 254 ∷ 253 ∷ from 0 80)
+counting = holding (from 0 80) (255 ∷ 254 ∷ 253 ∷ from 0 80)
 
 -- the bytes, at the start of the symbol store, as an image of w by h pixels
 unfoldable pub trims : List ℕ → ℕ → ℕ → List ℕ
-trims bytes w h = trimmed_numbers (trimmed_to (lent bytes []) (image Symbols 0 w h))
+trims bytes w h = trimmed_numbers (trimmed_to (holding bytes []) (image Symbols 0 w h))
 
 unfoldable pub turned_reds : ℕ → List ℕ
 turned_reds y = map (λ x. (turned_pixel counting (image Symbols 0 2 3) (rect 0 0 2 3) x y).r) (from 0 3)
@@ -71,14 +71,14 @@ pixel_lines =
 -- a 2 by 3 image at offset 5 ends at byte 29
 unfoldable pub past_lines : List Line
 past_lines =
-    (one_if (runs_past (lent (replicate 29 0) []) (image Symbols 5 2 3)), 0 ∷ [])
-    ∷ (one_if (runs_past (lent (replicate 28 0) (replicate 29 0)) (image Symbols 5 2 3)), 1 ∷ [])
-    ∷ (one_if (runs_past (lent (replicate 28 0) (replicate 29 0)) (image Wording 5 2 3)), 0 ∷ [])
+    (one_if (runs_past (holding (replicate 29 0) []) (image Symbols 5 2 3)), 0 ∷ [])
+    ∷ (one_if (runs_past (holding (replicate 28 0) (replicate 29 0)) (image Symbols 5 2 3)), 1 ∷ [])
+    ∷ (one_if (runs_past (holding (replicate 28 0) (replicate 29 0)) (image Wording 5 2 3)), 0 ∷ [])
     -- no pixel, and yet past the end
-    ∷ (one_if (runs_past (lent (replicate 29 0) []) (image Symbols 29 0 0)), 0 ∷ [])
-    ∷ (one_if (runs_past (lent (replicate 29 0) []) (image Symbols 30 0 0)), 1 ∷ [])
+    ∷ (one_if (runs_past (holding (replicate 29 0) []) (image Symbols 29 0 0)), 0 ∷ [])
+    ∷ (one_if (runs_past (holding (replicate 29 0) []) (image Symbols 30 0 0)), 1 ∷ [])
     -- four times the area is 2 ^ 64, which 64 bits take for 0
-    ∷ (one_if (runs_past (lent (replicate 29 0) []) (image Symbols 0 (2 ^ 31) (2 ^ 31))), 1 ∷ [])
+    ∷ (one_if (runs_past (holding (replicate 29 0) []) (image Symbols 0 (2 ^ 31) (2 ^ 31))), 1 ∷ [])
     ∷ []
 
 unfoldable pub trim_lines : List Line
@@ -96,13 +96,13 @@ trim_lines =
     ∷ (
       trimmed_numbers
           (trimmed_to
-          (lent (replicate 83 255) (9 ∷ 9 ∷ 9 ∷ clear 9 ++ shown 255 ++ clear 8 ++ shown 255 ++ clear 1))
+          (holding (replicate 83 255) (9 ∷ 9 ∷ 9 ∷ clear 9 ++ shown 255 ++ clear 8 ++ shown 255 ++ clear 1))
           (image Wording 3 4 5)),
       0 ∷ 1 ∷ 2 ∷ 2 ∷ 3 ∷ [],
     )
     -- untrimmed, the whole
-    ∷ (numbers (trim_box false (lent (clear 6) []) (image Symbols 0 2 3)), 0 ∷ 0 ∷ 2 ∷ 3 ∷ [])
-    ∷ (numbers (trim_box true (lent (clear 3 ++ shown 2 ++ clear 2) []) (image Symbols 0 2 3)), 1 ∷ 1 ∷ 1 ∷ 1 ∷ [])
+    ∷ (numbers (trim_box false (holding (clear 6) []) (image Symbols 0 2 3)), 0 ∷ 0 ∷ 2 ∷ 3 ∷ [])
+    ∷ (numbers (trim_box true (holding (clear 3 ++ shown 2 ++ clear 2) []) (image Symbols 0 2 3)), 1 ∷ 1 ∷ 1 ∷ 1 ∷ [])
     ∷ []
 
 unfoldable pub table : List Line

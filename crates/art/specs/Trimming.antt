@@ -1,12 +1,10 @@
 -- What can be seen of an image, and the smallest box that holds it.
 -- Assumes nothing.
-use Rattle.std.specs.Prelude.{ℕ, ◌+◌, ◌-◌, Bool, cond, not, List, [], ◌∷◌, eqb}
+use Rattle.std.specs.Prelude.{ℕ, ◌+◌, ◌-◌, Bool, cond, not, Option, Some, None, List, [], ◌∷◌, eqb}
 use Rattle.geometry.specs.Words.{from, any, only, earliest, or_else, greatest}
 use Rattle.geometry.specs.declared.rect.Rect.{Rect}
 use Rattle.art.specs.Stores.{Stores, pixel_in}
 use Rattle.art.specs.declared.memory_rgba8_texture.Image.{Image}
-use Rattle.art.specs.declared.trim.Trimmed.{Trimmed}
-use Rattle.art.specs.declared.trim.Trimmed.TheVariants.{AllClear, To}
 
 -- its alpha is not 0
 unfoldable pub visible : Stores → Image → ℕ → ℕ → Bool
@@ -48,10 +46,10 @@ whole_box i = record { x = 0; y = 0; w = i.w; h = i.h }
 unfoldable pub trim_box : Bool → Stores → Image → Rect
 trim_box trim s i = cond trim (smallest_box s i) (whole_box i)
 
--- what trimming answers, and the number and values of each answer: 7 where all alpha is 0
-unfoldable pub trimmed_to : Stores → Image → Trimmed
-trimmed_to s i = cond (all_clear s i) AllClear (To (smallest_box s i))
+-- what trimming answers, None where all alpha is 0, and the number and values of each answer: 7 for None
+unfoldable pub trimmed_to : Stores → Image → Option Rect
+trimmed_to s i = cond (all_clear s i) None (Some (smallest_box s i))
 
-abbrev pub trimmed_numbers : Trimmed → List ℕ
-trimmed_numbers AllClear = 7 ∷ []
-trimmed_numbers (To k) = 0 ∷ k.x ∷ k.y ∷ k.w ∷ k.h ∷ []
+abbrev pub trimmed_numbers : Option Rect → List ℕ
+trimmed_numbers None = 7 ∷ []
+trimmed_numbers (Some k) = 0 ∷ k.x ∷ k.y ∷ k.w ∷ k.h ∷ []

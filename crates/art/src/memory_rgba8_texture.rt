@@ -4,14 +4,21 @@ ghost use Rattle.std.specs.Prelude.{◌≡◌, ◌+◌, ◌<◌, length};
 ghost use Rattle.art.specs.Stores.{lent, of_store, runs_past, pixel_from, pixel_in, InStore};
 
 // Fixed symbols, and wording of one language.
-#[derive(Clone, Copy)]
+#[derive(Clone, Copy, PartialEq, Eq)]
 pub enum Store {
     Symbols,
     Wording,
 }
 
-// Rows follow each other from the offset on, 4 bytes a pixel.
+// The bytes of both, lent.
 #[derive(Clone, Copy)]
+pub struct Stores<'a> {
+    pub symbols: &'a [u8],
+    pub wording: &'a [u8],
+}
+
+// Rows follow each other from the offset on, 4 bytes a pixel.
+#[derive(Clone, Copy, PartialEq, Eq)]
 pub struct Image {
     pub store: Store,
     pub offset: u32,
@@ -19,7 +26,7 @@ pub struct Image {
     pub h: u32,
 }
 
-#[derive(Clone, Copy)]
+#[derive(Clone, Copy, PartialEq, Eq)]
 pub struct Pixel {
     pub r: u8,
     pub g: u8,
@@ -27,22 +34,23 @@ pub struct Pixel {
     pub a: u8,
 }
 
-// The lent slice itself, so that a part of it is a part of that store.
-pub fn store_of<'a>(symbols: &'a [u8], wording: &'a [u8], store: Store) -> &'a [u8]
-    ensures { result ≡ of_store store symbols.entry wording.entry }
-{
-    match store {
-        Store::Symbols => symbols,
-        Store::Wording => wording,
+impl<'a> Stores<'a> {
+    // The lent slice itself, so that a part of it is a part of that store.
+    pub fn of(self, store: Store) -> &'a [u8]
+        ensures { result ≡ of_store store self.entry.symbols self.entry.wording }
+    {
+        match store {
+            Store::Symbols => self.symbols,
+            Store::Wording => self.wording,
+        }
     }
 }
 
 // Four times the area may pass 64 bits: what the store has left is divided instead.
-pub fn runs_past<'a>(symbols: &'a [u8], wording: &'a [u8], image: Image) -> bool
-    ensures { result ≡ runs_past (lent symbols.now wording.now) image }
+pub fn runs_past(stores: Stores<'_>, image: Image) -> bool
+    ensures { result ≡ runs_past (lent stores.entry) image }
 {
-    let store = image.store;
-    let size = store_of(symbols, wording, store).len();
+    let size = stores.of(image.store).len();
     let offset = image.offset as usize;
     if size < offset {
         return true;
@@ -65,12 +73,11 @@ pub fn pixel_from(bytes: &[u8], at: usize) -> Pixel
 }
 
 // The caller has asked `runs_past`, once for an image and not for each pixel.
-pub fn get<'a>(symbols: &'a [u8], wording: &'a [u8], image: Image, x: u32, y: u32) -> Pixel
-    requires { InStore (lent symbols.now wording.now) image × (x < image.w) × (y < image.h) }
-    ensures { result ≡ pixel_in (lent symbols.now wording.now) image x y }
+pub fn get(stores: Stores<'_>, image: Image, x: u32, y: u32) -> Pixel
+    requires { InStore (lent stores) image × (x < image.w) × (y < image.h) }
+    ensures { result ≡ pixel_in (lent stores.entry) image x y }
 {
-    let store = image.store;
-    let bytes = store_of(symbols, wording, store);
+    let bytes = stores.of(image.store);
     let before = y as usize * image.w as usize + x as usize;
     pixel_from(bytes, image.offset as usize + 4 * before)
 }

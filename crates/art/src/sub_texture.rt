@@ -3,20 +3,13 @@ ghost use Rattle.std.specs.Prelude.{◌≡◌, ◌<◌};
 ghost use Rattle.art.specs.Stores.{lent, InStore, BoxIn, upright_pixel};
 
 use crate::memory_rgba8_texture;
-use crate::memory_rgba8_texture::{Image, Pixel};
+use crate::memory_rgba8_texture::{Image, Pixel, Stores};
 use geometry::rect::Rect;
 
-pub fn get<'a>(
-    symbols: &'a [u8],
-    wording: &'a [u8],
-    image: Image,
-    part: Rect,
-    x: u32,
-    y: u32,
-) -> Pixel
-    requires in_store { InStore (lent symbols.now wording.now) image }
+pub fn get(stores: Stores<'_>, image: Image, part: Rect, x: u32, y: u32) -> Pixel
+    requires in_store { InStore (lent stores) image }
     requires box_in { BoxIn part image.w image.h × (x < part.w) × (y < part.h) }
-    ensures { result ≡ upright_pixel (lent symbols.now wording.now) image part x y }
+    ensures { result ≡ upright_pixel (lent stores.entry) image part x y }
 {
-    memory_rgba8_texture::get(symbols, wording, image, part.x + x, part.y + y)
+    memory_rgba8_texture::get(stores, image, part.x + x, part.y + y)
 }

@@ -1,4 +1,5 @@
 -- What coordinates answers, from the tests and the values made. Assumes nothing.
+use Rattle.std.specs.Prelude.{Err, Ok}
 use Prim.Native.Nat.{◌<◌}
 use native.Mathlib.Omega.{arith}
 use mathlib.Core.Path.{◌≡◌, refl, sym, ap, ◌∙◌, subst}
@@ -22,26 +23,25 @@ use Rattle.records.proofs.Rows.{hit, skipped, none_left, at_in}
 use Rattle.records.proofs.Checks.{Good, formed}
 use Rattle.records.proofs.Keys.{named as named_by, stands-below}
 use Rattle.records.proofs.Pages.{ends-few, side_w, side_h}
-use Rattle.coords.specs.Coordinates.{nought, corners, named_page_size, between, past_edge, wanted, locate_row, locate_refusal, locate_answer, located}
+use Rattle.coords.specs.Coordinates.{Located, nought, corners, named_page_size, between, past_edge, wanted, locate_row, locate_refusal, locate_answer, located}
 use Rattle.coords.specs.Parts.{Countable, texel_answer, requested}
 use Rattle.coords.specs.declared.locate.Request.{Request}
+use Rattle.coords.specs.declared.locate.Position.TheVariants.{Pixels, Texels}
 use Rattle.coords.specs.declared.locate.Request.TheVariants.{Pixels as AskPixels, Edges, Inset}
-use Rattle.coords.specs.declared.locate.Located.{Located}
-use Rattle.coords.specs.declared.locate.Located.TheVariants.{Pixels, Texels, Refused}
 
 -- ## past 17
 
 module _ (f : Rect) (s : Size) (i : Float) where
-  pub texels_past : past_edge f s ≡ true → texel_answer f s i ≡ Refused PastPage
+  pub texels_past : past_edge f s ≡ true → texel_answer f s i ≡ Err PastPage
   texels_past e = ap (locate_answer (Texels (corners f s i))) (hit (past_edge f s) PastPage [] e)
 
-  pub texels_in : past_edge f s ≡ false → texel_answer f s i ≡ Texels (corners f s i)
+  pub texels_in : past_edge f s ≡ false → texel_answer f s i ≡ Ok (Texels (corners f s i))
   texels_in e = ap (locate_answer (Texels (corners f s i))) (skipped (past_edge f s) PastPage [] e ∙ none_left)
 
 -- ## past 2 and 15
 
 module _ (f : Rect) (s : Size) where
-  pub ask-pixels : requested AskPixels f s ≡ Pixels f
+  pub ask-pixels : requested AskPixels f s ≡ Ok (Pixels f)
   unfolding first_refusal
   ask-pixels = refl
 
@@ -52,7 +52,7 @@ module _ (f : Rect) (s : Size) where
   pub ask-inset : (i : Float) → between i ≡ true → requested (Inset i) f s ≡ texel_answer f s i
   ask-inset i e = ap (locate_answer (Texels (corners f s i))) (skipped (not (between i)) BadInset ((past_edge f s, PastPage) ∷ []) (ap not e))
 
-  pub ask-not-between : (i : Float) → between i ≡ false → requested (Inset i) f s ≡ Refused BadInset
+  pub ask-not-between : (i : Float) → between i ≡ false → requested (Inset i) f s ≡ Err BadInset
   ask-not-between i e = ap (locate_answer (Texels (corners f s i))) (hit (not (between i)) BadInset ((past_edge f s, PastPage) ∷ []) (ap not e))
 
 -- ## the whole row
@@ -89,15 +89,15 @@ module _ (l : Layout) (k : Key) where
         }
 
 module _ (l : Layout) (k : Key) (q : Request) where
-  pub refuses : {r : Refusal} → locate_refusal l k q ≡ some r → located l k q ≡ Refused r
+  pub refuses : {r : Refusal} → locate_refusal l k q ≡ some r → located l k q ≡ Err r
   unfolding located
   refuses e = ap (locate_answer (wanted q (record_named l k).frame (named_page_size l k))) e
 
-  pub unformed : well_formed l ≡ false → located l k q ≡ Refused NotWellFormed
+  pub unformed : well_formed l ≡ false → located l k q ≡ Err NotWellFormed
   unfolding locate_refusal locate_row
   unformed e = refuses (hit (not (well_formed l)) NotWellFormed _ (ap not e))
 
-  pub keyless : well_formed l ≡ true → any (has_key k) (standing l) ≡ false → located l k q ≡ Refused NoSuchKey
+  pub keyless : well_formed l ≡ true → any (has_key k) (standing l) ≡ false → located l k q ≡ Err NoSuchKey
   unfolding locate_refusal locate_row
   keyless e t =
       refuses

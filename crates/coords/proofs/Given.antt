@@ -1,4 +1,5 @@
 -- From an answer back to the row: what holds where a number is answered, and where none is. Assumes nothing.
+use Rattle.std.specs.Prelude.{Err, Ok}
 use Prim.Native.Nat.{ℕ, ◌+◌, ◌≤◌, ◌<◌}
 use native.Mathlib.Omega.{arith}
 use mathlib.Core.Path.{◌≡◌, refl}
@@ -24,37 +25,37 @@ use Rattle.records.proofs.Layouts.{width-holds, height-holds}
 use Rattle.coords.specs.Coordinates.{named_page_size, bad_inset, past_edge, out_of_page, wanted, locate_row, locate_refusal, locate_answer, located}
 use Rattle.coords.specs.declared.locate.Corners.{Corners}
 use Rattle.coords.specs.declared.locate.Request.{Request}
+use Rattle.coords.specs.declared.locate.Position.{Position}
+use Rattle.coords.specs.declared.locate.Position.TheVariants.{Pixels, Texels}
 use Rattle.coords.specs.declared.locate.Request.TheVariants.{Pixels as AskPixels, Edges, Inset}
-use Rattle.coords.specs.declared.locate.Located.{Located}
-use Rattle.coords.specs.declared.locate.Located.TheVariants.{Pixels, Texels, Refused}
 use Rattle.coords.proofs.Answers.{named_in, named-good}
 
 -- ## which case
 
-refused_by : {r : Refusal} (q : Request) (f : Rect) (s : Size) (o : Option Refusal) → locate_answer (wanted q f s) o ≡ Refused r → o ≡ some r
+refused_by : {r : Refusal} (q : Request) (f : Rect) (s : Size) (o : Option Refusal) → locate_answer (wanted q f s) o ≡ Err r → o ≡ some r
 refused_by q f s (some n) e = cc
 refused_by AskPixels f s none e = let z : ◌≡◌ {A = ℕ} 0 1 = cc in absurd (omega arith)
 refused_by Edges f s none e = let z : ◌≡◌ {A = ℕ} 0 1 = cc in absurd (omega arith)
 refused_by (Inset i) f s none e = let z : ◌≡◌ {A = ℕ} 0 1 = cc in absurd (omega arith)
 
-pixels_by : {f : Rect} (a : Located) (o : Option Refusal) → locate_answer a o ≡ Pixels f → (o ≡ none) × (a ≡ Pixels f)
-pixels_by a none e = (refl, e)
+pixels_by : {f : Rect} (a : Position) (o : Option Refusal) → locate_answer a o ≡ Ok (Pixels f) → (o ≡ none) × (a ≡ Pixels f)
+pixels_by a none e = (refl, cc)
 pixels_by a (some r) e = let z : ◌≡◌ {A = ℕ} 0 1 = cc in absurd (omega arith)
 
-texels_by : {c : Corners} (a : Located) (o : Option Refusal) → locate_answer a o ≡ Texels c → (o ≡ none) × (a ≡ Texels c)
-texels_by a none e = (refl, e)
+texels_by : {c : Corners} (a : Position) (o : Option Refusal) → locate_answer a o ≡ Ok (Texels c) → (o ≡ none) × (a ≡ Texels c)
+texels_by a none e = (refl, cc)
 texels_by a (some r) e = let z : ◌≡◌ {A = ℕ} 0 1 = cc in absurd (omega arith)
 
 module _ (l : Layout) (k : Key) (q : Request) where
-  pub refusal_of : {r : Refusal} → located l k q ≡ Refused r → locate_refusal l k q ≡ some r
+  pub refusal_of : {r : Refusal} → located l k q ≡ Err r → locate_refusal l k q ≡ some r
   unfolding located
   refusal_of e = refused_by q (record_named l k).frame (named_page_size l k) (locate_refusal l k q) e
 
-  pub pixels_of : {f : Rect} → located l k q ≡ Pixels f → (locate_refusal l k q ≡ none) × (wanted q (record_named l k).frame (named_page_size l k) ≡ Pixels f)
+  pub pixels_of : {f : Rect} → located l k q ≡ Ok (Pixels f) → (locate_refusal l k q ≡ none) × (wanted q (record_named l k).frame (named_page_size l k) ≡ Pixels f)
   unfolding located
   pixels_of e = pixels_by (wanted q (record_named l k).frame (named_page_size l k)) (locate_refusal l k q) e
 
-  pub texels_of : {c : Corners} → located l k q ≡ Texels c → (locate_refusal l k q ≡ none) × (wanted q (record_named l k).frame (named_page_size l k) ≡ Texels c)
+  pub texels_of : {c : Corners} → located l k q ≡ Ok (Texels c) → (locate_refusal l k q ≡ none) × (wanted q (record_named l k).frame (named_page_size l k) ≡ Texels c)
   unfolding located
   texels_of e = texels_by (wanted q (record_named l k).frame (named_page_size l k)) (locate_refusal l k q) e
 

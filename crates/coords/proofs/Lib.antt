@@ -1,4 +1,5 @@
 pub mod Casts
+pub mod Between
 pub mod Answers
 pub mod Given
 pub mod Quotients

@@ -1,4 +1,5 @@
 -- The numbers and values of an answer tell it from every other: by their bits, which tell two f32 apart. Assumes nothing.
+use Rattle.std.specs.Prelude.{Err, Ok}
 use Prim.Native.Nat.{ℕ}
 use native.Mathlib.Omega.{arith}
 use mathlib.Core.Path.{◌≡◌, sym, ap, ◌∙◌}
@@ -15,12 +16,11 @@ use Rattle.records.specs.declared.layout.Layout.{Layout}
 use Rattle.records.specs.declared.refusal.Refusal.{Refusal}
 use Rattle.records.proofs.Theorems.{number_tells, number-some}
 use Rattle.records.specs.Layouts.{record_named}
-use Rattle.coords.specs.Coordinates.{num, corners, named_page_size, wanted, locate_refusal, locate_answer, located, located_numbers}
+use Rattle.coords.specs.Coordinates.{Located, num, corners, named_page_size, wanted, locate_refusal, locate_answer, located, located_numbers}
 use Rattle.coords.specs.declared.locate.Corners.{Corners}
 use Rattle.coords.specs.declared.locate.Request.{Request}
+use Rattle.coords.specs.declared.locate.Position.TheVariants.{Pixels, Texels}
 use Rattle.coords.specs.declared.locate.Request.TheVariants.{Pixels as AskPixels, Edges, Inset}
-use Rattle.coords.specs.declared.locate.Located.{Located}
-use Rattle.coords.specs.declared.locate.Located.TheVariants.{Pixels, Texels, Refused}
 
 -- ## an answer's floats are f32, as every float of its type is
 
@@ -31,9 +31,9 @@ pub record AreF32 (c : Corners) : Type 0 where
   pub bottom : T (fits binary32 c.bottom)
 
 abbrev pub HoldsF32 : Located → Type 0
-HoldsF32 (Pixels f) = Unit {0}
-HoldsF32 (Texels c) = AreF32 c
-HoldsF32 (Refused r) = Unit {0}
+HoldsF32 (Ok (Pixels f)) = Unit {0}
+HoldsF32 (Ok (Texels c)) = AreF32 c
+HoldsF32 (Err r) = Unit {0}
 
 corners_f32 : (f : Rect) (s : Size) (i : Float) → AreF32 (corners f s i)
 unfolding corners
@@ -60,22 +60,22 @@ bits_tell : (x y : Float) → T (fits binary32 x) → T (fits binary32 y) → to
 bits_tell x y p q e = sym (of_bits-to_bits binary32 x p) ∙ ap (of_bits binary32) e ∙ of_bits-to_bits binary32 y q
 
 pub located_tells : (a b : Located) → HoldsF32 a → HoldsF32 b → located_numbers a ≡ located_numbers b → a ≡ b
-located_tells (Pixels f) (Pixels g) p q e =
+located_tells (Ok (Pixels f)) (Ok (Pixels g)) p q e =
     let x : f.x ≡ g.x = cc in
     let y : f.y ≡ g.y = cc in
     let w : f.w ≡ g.w = cc in
     let h : f.h ≡ g.h = cc in
-    λ i. Pixels (record { x = x i; y = y i; w = w i; h = h i })
-located_tells (Pixels f) (Texels c) p q e = let z : ◌≡◌ {A = ℕ} 0 1 = cc in absurd (omega arith)
-located_tells (Pixels f) (Refused r) p q e = let z : number_of r ≡ 0 = cc in absurd (number-some r z)
-located_tells (Texels c) (Pixels f) p q e = let z : ◌≡◌ {A = ℕ} 0 1 = cc in absurd (omega arith)
-located_tells (Texels c) (Texels d) p q e =
+    λ i. Ok (Pixels (record { x = x i; y = y i; w = w i; h = h i }))
+located_tells (Ok (Pixels f)) (Ok (Texels c)) p q e = let z : ◌≡◌ {A = ℕ} 0 1 = cc in absurd (omega arith)
+located_tells (Ok (Pixels f)) (Err r) p q e = let z : number_of r ≡ 0 = cc in absurd (number-some r z)
+located_tells (Ok (Texels c)) (Ok (Pixels f)) p q e = let z : ◌≡◌ {A = ℕ} 0 1 = cc in absurd (omega arith)
+located_tells (Ok (Texels c)) (Ok (Texels d)) p q e =
     let left = bits_tell c.left d.left p.left q.left (cc) in
     let top = bits_tell c.top d.top p.top q.top (cc) in
     let right = bits_tell c.right d.right p.right q.right (cc) in
     let bottom = bits_tell c.bottom d.bottom p.bottom q.bottom (cc) in
-    λ i. Texels (record { left = left i; top = top i; right = right i; bottom = bottom i })
-located_tells (Texels c) (Refused r) p q e = let z : number_of r ≡ 0 = cc in absurd (number-some r z)
-located_tells (Refused r) (Pixels f) p q e = let z : number_of r ≡ 0 = cc in absurd (number-some r z)
-located_tells (Refused r) (Texels c) p q e = let z : number_of r ≡ 0 = cc in absurd (number-some r z)
-located_tells (Refused r) (Refused n) p q e = let z : number_of r ≡ number_of n = cc in ap Refused (number_tells r n z)
+    λ i. Ok (Texels (record { left = left i; top = top i; right = right i; bottom = bottom i }))
+located_tells (Ok (Texels c)) (Err r) p q e = let z : number_of r ≡ 0 = cc in absurd (number-some r z)
+located_tells (Err r) (Ok (Pixels f)) p q e = let z : number_of r ≡ 0 = cc in absurd (number-some r z)
+located_tells (Err r) (Ok (Texels c)) p q e = let z : number_of r ≡ 0 = cc in absurd (number-some r z)
+located_tells (Err r) (Err n) p q e = let z : number_of r ≡ number_of n = cc in ap Err (number_tells r n z)

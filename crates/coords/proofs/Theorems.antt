@@ -1,4 +1,5 @@
 -- What document 01 says of coordinates, each theorem under the sentence that it carries. Assumes nothing.
+use Rattle.std.specs.Prelude.{Err, Ok}
 use Prim.Native.Nat.{ℕ}
 use native.Mathlib.Omega.{arith}
 use mathlib.Core.Path.{◌≡◌, refl, sym, ap, ◌∙◌, subst}
@@ -18,14 +19,13 @@ use Rattle.records.specs.declared.layout.Layout.{Layout}
 use Rattle.records.specs.declared.refusal.Refusal.{Refusal}
 use Rattle.records.specs.declared.refusal.Refusal.TheVariants.{NotWellFormed, NoSuchKey, BadInset, PastPage}
 use Rattle.records.proofs.Rows.{First, is-first, exactly}
-use Rattle.coords.specs.Coordinates.{nought, corners, named_page_size, between, bad_inset, past_edge, out_of_page, wanted, locate_row, locate_refusal, located, located_numbers}
+use Rattle.coords.specs.Coordinates.{Located, nought, corners, named_page_size, between, bad_inset, past_edge, out_of_page, wanted, locate_row, locate_refusal, located, located_numbers}
 use Rattle.coords.specs.Bits.{AllExact, inset_nought}
 use Rattle.coords.specs.Parts.{Countable}
 use Rattle.coords.specs.declared.locate.Corners.{Corners}
 use Rattle.coords.specs.declared.locate.Request.{Request}
+use Rattle.coords.specs.declared.locate.Position.TheVariants.{Pixels, Texels}
 use Rattle.coords.specs.declared.locate.Request.TheVariants.{Pixels as AskPixels, Edges, Inset}
-use Rattle.coords.specs.declared.locate.Located.{Located}
-use Rattle.coords.specs.declared.locate.Located.TheVariants.{Pixels, Texels, Refused}
 use Rattle.coords.proofs.Answers.{ask-pixels, ask_edges, ask-inset, texels_in, countable, refuses, found}
 use Rattle.coords.proofs.Given.{refusal_of, texels_of, Passed, passed_row, sides, free_never}
 use Rattle.coords.proofs.Sides.{corners_exact, AreNumbers, corners-numbers, zero-corners, zero-between}
@@ -57,14 +57,14 @@ module _ (l : Layout) (k : Key) (q : Request) where
   sixteen = (out_of_page q (record_named l k).frame (named_page_size l k), PastPage)
 
   -- not well-formed
-  pub locate_2 : located l k q ≡ Refused NotWellFormed ↔ well_formed l ≡ false
+  pub locate_2 : located l k q ≡ Err NotWellFormed ↔ well_formed l ≡ false
   unfolding locate_refusal locate_row
   locate_2 =
       let x = exactly [] two.0 two.1 (fifteen ∷ seventeen ∷ sixteen ∷ []) refl refl in
       (λ e. not-true _ (x.0 (refusal_of l k q e)).1, λ w. refuses l k q (x.1 (tt, ap not w)))
 
   -- no such key
-  pub locate_15 : located l k q ≡ Refused NoSuchKey ↔ (well_formed l ≡ true) × (any (has_key k) (standing l) ≡ false)
+  pub locate_15 : located l k q ≡ Err NoSuchKey ↔ (well_formed l ≡ true) × (any (has_key k) (standing l) ≡ false)
   unfolding locate_refusal locate_row
   locate_15 =
       let x = exactly (two ∷ []) fifteen.0 fifteen.1 (seventeen ∷ sixteen ∷ []) refl refl in (
@@ -73,7 +73,7 @@ module _ (l : Layout) (k : Key) (q : Request) where
       )
 
   -- inset not between 0 and 0.5
-  pub locate_17 : located l k q ≡ Refused BadInset ↔ (well_formed l ≡ true) × (any (has_key k) (standing l) ≡ true) × (bad_inset q ≡ true)
+  pub locate_17 : located l k q ≡ Err BadInset ↔ (well_formed l ≡ true) × (any (has_key k) (standing l) ≡ true) × (bad_inset q ≡ true)
   unfolding locate_refusal locate_row
   locate_17 =
       let x = exactly (two ∷ fifteen ∷ []) seventeen.0 seventeen.1 (sixteen ∷ []) refl refl in (
@@ -82,7 +82,7 @@ module _ (l : Layout) (k : Key) (q : Request) where
       )
 
   -- frame past the page's right or bottom edge
-  pub locate_16 : located l k q ≡ Refused PastPage
+  pub locate_16 : located l k q ≡ Err PastPage
       ↔ (well_formed l ≡ true) × (any (has_key k) (standing l) ≡ true) × (bad_inset q ≡ false) × (out_of_page q (record_named l k).frame (named_page_size l k) ≡ true)
   unfolding locate_refusal locate_row
   locate_16 =
@@ -92,7 +92,7 @@ module _ (l : Layout) (k : Key) (q : Request) where
       )
 
   -- and no other number
-  pub locate_only : (r : Refusal) → located l k q ≡ Refused r → Memᴰ r (NotWellFormed ∷ NoSuchKey ∷ BadInset ∷ PastPage ∷ [])
+  pub locate_only : (r : Refusal) → located l k q ≡ Err r → Memᴰ r (NotWellFormed ∷ NoSuchKey ∷ BadInset ∷ PastPage ∷ [])
   unfolding locate_refusal locate_row
   locate_only r e = go (two ∷ fifteen ∷ seventeen ∷ sixteen ∷ []) (is-first _ (refusal_of l k q e))
     where
@@ -106,7 +106,7 @@ module _ (l : Layout) (k : Key) (q : Request) where
       go (c ∷ cs) (inr h) = Memᴰ.tail (go cs h.1)
 
 -- "16 .. (not asked for pixel answers)": pixels are refused for 2 and 15 only
-pub pixels-only : (l : Layout) (k : Key) (r : Refusal) → located l k AskPixels ≡ Refused r → (r ≡ NotWellFormed) ⊎ (r ≡ NoSuchKey)
+pub pixels-only : (l : Layout) (k : Key) (r : Refusal) → located l k AskPixels ≡ Err r → (r ≡ NotWellFormed) ⊎ (r ≡ NoSuchKey)
 pixels-only l k r e = go (locate_only l k AskPixels r e)
   where
     never : {A : Type 0} → false ≡ true → A
@@ -115,16 +115,16 @@ pixels-only l k r e = go (locate_only l k AskPixels r e)
     go : Memᴰ r (NotWellFormed ∷ NoSuchKey ∷ BadInset ∷ PastPage ∷ []) → (r ≡ NotWellFormed) ⊎ (r ≡ NoSuchKey)
     go (Memᴰ.head p) = inl p
     go (Memᴰ.tail (Memᴰ.head p)) = inr p
-    go (Memᴰ.tail (Memᴰ.tail (Memᴰ.head p))) = never ((locate_17 l k AskPixels).0 (e ∙ ap Refused p)).2
-    go (Memᴰ.tail (Memᴰ.tail (Memᴰ.tail (Memᴰ.head p)))) = never ((locate_16 l k AskPixels).0 (e ∙ ap Refused p)).3
+    go (Memᴰ.tail (Memᴰ.tail (Memᴰ.head p))) = never ((locate_17 l k AskPixels).0 (e ∙ ap Err p)).2
+    go (Memᴰ.tail (Memᴰ.tail (Memᴰ.tail (Memᴰ.head p)))) = never ((locate_16 l k AskPixels).0 (e ∙ ap Err p)).3
     go (Memᴰ.tail (Memᴰ.tail (Memᴰ.tail (Memᴰ.tail p)))) = elim p [ ]
 
 -- edges are never answered 17
-pub edges_17 : (l : Layout) (k : Key) → located l k Edges ≡ Refused BadInset → ⊥
+pub edges_17 : (l : Layout) (k : Key) → located l k Edges ≡ Err BadInset → ⊥
 edges_17 l k e = not_both ((locate_17 l k Edges).0 e).2 refl
 
 -- a page that is not forced holds its frames: 16 is for forced pages only
-pub forced_16 : (l : Layout) (k : Key) (q : Request) → located l k q ≡ Refused PastPage → l.config.forced ≡ true
+pub forced_16 : (l : Layout) (k : Key) (q : Request) → located l k q ≡ Err PastPage → l.config.forced ≡ true
 forced_16 l k q e = go l.config.forced refl
   where
     at : (well_formed l ≡ true) × (any (has_key k) (standing l) ≡ true) × (bad_inset q ≡ false) × (out_of_page q (record_named l k).frame (named_page_size l k) ≡ true)
@@ -137,14 +137,14 @@ forced_16 l k q e = go l.config.forced refl
 -- ## "Pixels answer the frame. The others answer four f32 numbers .. with i = 0 at edges"
 
 module _ (l : Layout) (k : Key) (e : well_formed l ≡ true) (t : any (has_key k) (standing l) ≡ true) where
-  pub pixels_are : located l k AskPixels ≡ Pixels (record_named l k).frame
+  pub pixels_are : located l k AskPixels ≡ Ok (Pixels (record_named l k).frame)
   pixels_are = found l k AskPixels e t ∙ ask-pixels (record_named l k).frame (named_page_size l k)
 
   module _ (inside : past_edge (record_named l k).frame (named_page_size l k) ≡ false) where
-    pub edges_are : located l k Edges ≡ Texels (corners (record_named l k).frame (named_page_size l k) nought)
+    pub edges_are : located l k Edges ≡ Ok (Texels (corners (record_named l k).frame (named_page_size l k) nought))
     edges_are = found l k Edges e t ∙ ask_edges (record_named l k).frame (named_page_size l k) ∙ texels_in (record_named l k).frame (named_page_size l k) nought inside
 
-    pub inset_are : (i : Float) → between i ≡ true → located l k (Inset i) ≡ Texels (corners (record_named l k).frame (named_page_size l k) i)
+    pub inset_are : (i : Float) → between i ≡ true → located l k (Inset i) ≡ Ok (Texels (corners (record_named l k).frame (named_page_size l k) i))
     inset_are i b = found l k (Inset i) e t ∙ ask-inset (record_named l k).frame (named_page_size l k) i b ∙ texels_in (record_named l k).frame (named_page_size l k) i inside
 
 -- ## "Where i is 0 and the page side a power of two, the number is exact: its decoded bits times the side give the pixel column or row."
@@ -152,7 +152,7 @@ module _ (l : Layout) (k : Key) (e : well_formed l ≡ true) (t : any (has_key k
 truth : {b : Bool} → b ≡ true → T b
 truth e = subst T (sym e) tt
 
-module _ (l : Layout) (k : Key) (q : Request) (c : Corners) (e : located l k q ≡ Texels c) where
+module _ (l : Layout) (k : Key) (q : Request) (c : Corners) (e : located l k q ≡ Ok (Texels c)) where
   clear : Passed l k q
   clear = passed_row l k q (texels_of l k q e).0
 
@@ -184,7 +184,7 @@ zero_as_edges l k i z = start (well_formed l) refl (any (has_key k) (standing l)
     onward e t false p =
         let s = sides l k e t p in
         inset_are l k e t p i b
-        ∙ ap Texels (zero-corners (record_named l k).frame (named_page_size l k) (countable l k e t) s.wide s.tall i (truth z))
+        ∙ ap (λ (c : Corners). Ok (Texels c)) (zero-corners (record_named l k).frame (named_page_size l k) (countable l k e t) s.wide s.tall i (truth z))
         ∙ sym (edges_are l k e t p)
 
     start : (w : Bool) → well_formed l ≡ w → (a : Bool) → any (has_key k) (standing l) ≡ a → located l k (Inset i) ≡ located l k Edges
@@ -193,7 +193,7 @@ zero_as_edges l k i z = start (well_formed l) refl (any (has_key k) (standing l)
     start true e true t = onward e t (past_edge (record_named l k).frame (named_page_size l k)) refl
 
 -- the four numbers are numbers, so that each has one bit pattern
-pub never_nan : (l : Layout) (k : Key) (q : Request) (c : Corners) → located l k q ≡ Texels c → AreNumbers c
+pub never_nan : (l : Layout) (k : Key) (q : Request) (c : Corners) → located l k q ≡ Ok (Texels c) → AreNumbers c
 never_nan l k q c e = go q refl (texels_of l k q e).1
   where
     at : Passed l k q

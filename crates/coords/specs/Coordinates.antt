@@ -1,6 +1,6 @@
 -- Coordinates: the row's checks, left to right, and the answer where none holds; and the numbers and values of each answer.
 -- Assumes nothing.
-use Rattle.std.specs.Prelude.{ℕ, ◌+◌, Bool, false, not, ◌&&◌, ◌||◌, List, [], ◌∷◌, ltb, pos, negsuc, Float}
+use Rattle.std.specs.Prelude.{ℕ, ◌+◌, Bool, false, not, Result, Ok, ◌&&◌, ◌||◌, List, [], ◌∷◌, ltb, pos, negsuc, Float, Err, Ok}
 use Rattle.std.proofs.Math.Option.{Option, none, some}
 use Rattle.std.specs.Float.{fin, binary32}
 use Rattle.std.specs.Float.Ieee.{add, sub, div, le, of_int, to_bits}
@@ -15,9 +15,9 @@ use Rattle.records.specs.declared.refusal.Refusal.{Refusal}
 use Rattle.records.specs.declared.refusal.Refusal.TheVariants.{NotWellFormed, NoSuchKey, BadInset, PastPage}
 use Rattle.coords.specs.declared.locate.Corners.{Corners}
 use Rattle.coords.specs.declared.locate.Request.{Request}
+use Rattle.coords.specs.declared.locate.Position.{Position}
+use Rattle.coords.specs.declared.locate.Position.TheVariants.{Pixels, Texels}
 use Rattle.coords.specs.declared.locate.Request.TheVariants.{Pixels as AskPixels, Edges, Inset}
-use Rattle.coords.specs.declared.locate.Located.{Located}
-use Rattle.coords.specs.declared.locate.Located.TheVariants.{Pixels, Texels, Refused}
 
 -- ## four f32 numbers, each operation rounded once
 
@@ -85,22 +85,25 @@ unfoldable pub locate_refusal : Layout → Key → Request → Option Refusal
 locate_refusal l k q = first_refusal (locate_row l k q)
 
 -- pixels answer the frame; the others four f32 numbers, with i = 0 at edges
-abbrev pub wanted : Request → Rect → Size → Located
+abbrev pub wanted : Request → Rect → Size → Position
 wanted AskPixels f s = Pixels f
 wanted Edges f s = Texels (corners f s nought)
 wanted (Inset i) f s = Texels (corners f s i)
 
-abbrev pub locate_answer : Located → Option Refusal → Located
-locate_answer a none = a
-locate_answer a (some r) = Refused r
+abbrev pub Located : Type 0
+Located = Result Position Refusal
+
+abbrev pub locate_answer : Position → Option Refusal → Located
+locate_answer a none = Ok a
+locate_answer a (some r) = Err r
 
 unfoldable pub located : Layout → Key → Request → Located
 located l k q = locate_answer (wanted q (record_named l k).frame (named_page_size l k)) (locate_refusal l k q)
 
 -- the four numbers by their bits
 abbrev pub located_numbers : Located → List ℕ
-located_numbers (Pixels f) = 0 ∷ 0 ∷ f.x ∷ f.y ∷ f.w ∷ f.h ∷ []
-located_numbers (Texels c) =
+located_numbers (Ok (Pixels f)) = 0 ∷ 0 ∷ f.x ∷ f.y ∷ f.w ∷ f.h ∷ []
+located_numbers (Ok (Texels c)) =
     0
     ∷ 1
     ∷ to_bits binary32 c.left
@@ -108,4 +111,4 @@ located_numbers (Texels c) =
     ∷ to_bits binary32 c.right
     ∷ to_bits binary32 c.bottom
     ∷ []
-located_numbers (Refused r) = number_of r ∷ []
+located_numbers (Err r) = number_of r ∷ []

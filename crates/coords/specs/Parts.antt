@@ -5,10 +5,9 @@ use Rattle.geometry.specs.declared.rect.Rect.{Rect}
 use Rattle.geometry.specs.declared.rect.Size.{Size}
 use Rattle.records.specs.Refusals.{first_refusal}
 use Rattle.records.specs.declared.refusal.Refusal.TheVariants.{BadInset, PastPage}
-use Rattle.coords.specs.Coordinates.{corners, bad_inset, past_edge, out_of_page, wanted, locate_answer}
+use Rattle.coords.specs.Coordinates.{Located, corners, bad_inset, past_edge, out_of_page, wanted, locate_answer}
 use Rattle.coords.specs.declared.locate.Request.{Request}
-use Rattle.coords.specs.declared.locate.Located.{Located}
-use Rattle.coords.specs.declared.locate.Located.TheVariants.{Texels}
+use Rattle.coords.specs.declared.locate.Position.TheVariants.{Texels}
 
 -- an f32 holds every whole number below 2 ^ 24
 pub record Countable (f : Rect) (s : Size) : Type 0 where

@@ -1,6 +1,6 @@
 // Coordinates of a standing image: in pixels, at texel edges, or inset by a stated distance. Added by design, not the crate's.
 ghost use Rattle.std.specs.Prelude.{◌≡◌, ◌<◌};
-ghost use Rattle.coords.specs.Coordinates.{low_edge, high_edge, corners, between, past_edge, located, located_numbers};
+ghost use Rattle.coords.specs.Coordinates.{low_edge, corners, between, past_edge, located, located_numbers};
 ghost use Rattle.coords.specs.Parts.{Countable, texel_answer, requested};
 
 use geometry::rect::{Rect, Size};
@@ -9,7 +9,7 @@ use records::layout;
 use records::layout::Layout;
 use records::refusal::Refusal;
 
-#[derive(Clone, Copy)]
+#[derive(Clone, Copy, PartialEq)]
 pub struct Corners {
     pub left: f32,
     pub top: f32,
@@ -17,44 +17,40 @@ pub struct Corners {
     pub bottom: f32,
 }
 
-#[derive(Clone, Copy)]
+#[derive(Clone, Copy, PartialEq)]
 pub enum Request {
     Pixels,
     Edges,
     Inset(f32),
 }
 
-#[derive(Clone, Copy)]
-pub enum Located {
+// Where an image is, in what was asked for.
+#[derive(Clone, Copy, PartialEq)]
+pub enum Position {
     Pixels(Rect),
     Texels(Corners),
-    Refused(Refusal),
 }
 
-// Left or top: (at + i) / side, each operation rounded once.
-fn low_edge(at: u32, i: f32, side: u32) -> f32
+pub type Located = Result<Position, Refusal>;
+
+// One of the four numbers, with what moves it in: (at + by) / side, each operation rounded once.
+#[tactic(auto, using(crate::proofs::Casts::in_float_lem))]
+fn edge(at: u32, by: f32, side: u32) -> f32
     requires { (at < 16777216) × (side < 16777216) }
-    ensures { result ≡ low_edge at i side }
+    ensures { result ≡ low_edge at by side }
 {
-    (at as f32 + i) / side as f32
+    (at as f32 + by) / side as f32
 }
 
-// Right or bottom: (at - i) / side, each operation rounded once.
-fn high_edge(at: u32, i: f32, side: u32) -> f32
-    requires { (at < 16777216) × (side < 16777216) }
-    ensures { result ≡ high_edge at i side }
-{
-    (at as f32 - i) / side as f32
-}
-
+// The inset moves left and top by itself, right and bottom by its negative: the sum is then the difference.
 fn corners_of(f: Rect, s: Size, i: f32) -> Corners
     requires { Countable f s }
     ensures { result ≡ corners f s i }
 {
-    let left = low_edge(f.x, i, s.w);
-    let top = low_edge(f.y, i, s.h);
-    let right = high_edge(f.x + f.w, i, s.w);
-    let bottom = high_edge(f.y + f.h, i, s.h);
+    let left = edge(f.x, i, s.w);
+    let top = edge(f.y, i, s.h);
+    let right = edge(f.x + f.w, -i, s.w);
+    let bottom = edge(f.y + f.h, -i, s.h);
     Corners {
         left,
         top,
@@ -67,25 +63,27 @@ fn corners_of(f: Rect, s: Size, i: f32) -> Corners
 fn is_between(i: f32) -> bool
     ensures { result ≡ between i }
 {
-    (0.0 <= i) & (i <= 0.5)
+    (0.0..=0.5).contains(&i)
 }
 
+#[tactic(auto, unfolding(crate::specs::Coordinates::past_edge))]
 fn past_edge(f: Rect, s: Size) -> bool
     requires { Countable f s }
     ensures { result ≡ past_edge f s }
 {
-    (s.w < f.x + f.w) | (s.h < f.y + f.h)
+    s.w < f.x + f.w || s.h < f.y + f.h
 }
 
 // 16, then the corners.
+#[tactic(auto, using(crate::proofs::Answers::texels_past, crate::proofs::Answers::texels_in))]
 fn texels(f: Rect, s: Size, i: f32) -> Located
     requires { Countable f s }
     ensures { result ≡ texel_answer f s i }
 {
     if past_edge(f, s) {
-        return Located::Refused(Refusal::PastPage);
+        return Err(Refusal::PastPage);
     }
-    Located::Texels(corners_of(f, s, i))
+    Ok(Position::Texels(corners_of(f, s, i)))
 }
 
 // 17, then 16, then the answer, for the frame and its page's size.
@@ -94,11 +92,11 @@ fn answer_request(q: Request, f: Rect, s: Size) -> Located
     ensures { result ≡ requested q f s }
 {
     match q {
-        Request::Pixels => Located::Pixels(f),
+        Request::Pixels => Ok(Position::Pixels(f)),
         Request::Edges => texels(f, s, 0.0),
         Request::Inset(i) => {
             if !is_between(i) {
-                return Located::Refused(Refusal::BadInset);
+                return Err(Refusal::BadInset);
             }
             texels(f, s, i)
         }
@@ -111,11 +109,11 @@ pub fn coordinates(l: Layout, key: Key, request: Request) -> Located
     ensures result_value { located_numbers result ≡ located_numbers (located l key request) }
 {
     if !layout::well_formed(l) {
-        return Located::Refused(Refusal::NotWellFormed);
+        return Err(Refusal::NotWellFormed);
     }
     let at = layout::find_key(l, key);
     if l.count <= at {
-        return Located::Refused(Refusal::NoSuchKey);
+        return Err(Refusal::NoSuchKey);
     }
     let r = l.records[at];
     let s = layout::size_of_page(l, r.page);

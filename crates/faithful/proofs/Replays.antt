@@ -7,12 +7,13 @@ use native.Mathlib.Omega.{arith}
 use native.Mathlib.Decide.{ℕ_discrete}
 use lib.ListN.{length, length-append}
 use lib.Dec.{eqb}
+use denote.Enum.Bare.{sameb}
+use Rattle.geometry.specs.contracts.spot.Turn as Turn
 use borrow.Author.Tests.{eqb-true, eq-eqb, ne_eqb}
 use Rattle.geometry.specs.declared.rect.Rect.{Rect}
 use Rattle.geometry.specs.declared.rect.Size.{Size}
 use Rattle.geometry.specs.declared.spot.Spot.{Spot}
-use Rattle.geometry.specs.declared.spot.Found.{Found}
-use Rattle.geometry.specs.declared.spot.Found.TheVariants.{Nothing, At}
+use Rattle.std.specs.Prelude.{Option, Some, None}
 use Rattle.geometry.specs.declared.spot.Turn.{Turn}
 use Rattle.geometry.specs.declared.spot.Turn.TheVariants.{Upright, Turned}
 use Rattle.records.specs.declared.texture_packer_config.Config.{Config}
@@ -43,6 +44,13 @@ eqb_shift x b y l = go (ℕ_discrete (x - b) y)
     go (no n) = ne_eqb (x - b) y n ∙ sym (ne_eqb x (y + b) (λ q. n (omega arith)))
 
 -- ## a record's cell is the spot it was given
+
+-- turns are the same as their numbers are
+same-turn : (t u : Turn) → sameb Turn.the_type t u ≡ eqb (turn_number t) (turn_number u)
+same-turn Upright Upright = refl
+same-turn Turned Turned = refl
+same-turn Upright Turned = refl
+same-turn Turned Upright = refl
 
 turn-same : (t u : Turn) → turn_number t ≡ turn_number u → t ≡ u
 turn-same Upright Upright e = refl
@@ -93,7 +101,7 @@ and_row false b t = refl
 
 pub same_at : (c : Config) (r : Record) (k : Spot) → Good c r
     → ((eqb (r.frame.x - c.border) k.at.x && eqb (r.frame.y - c.border) k.at.y) && eqb (turn_number r.turn) (turn_number k.turn))
-    ≡ same_spot r (record_for c (art_of r) r.page.0 (At k))
+    ≡ same_spot r (record_for c (art_of r) r.page.0 (Some k))
 unfolding same_spot record_for record_at all_of
 same_at c r k g =
     and_row (eqb (r.frame.x - c.border) k.at.x) (eqb (r.frame.y - c.border) k.at.y) (eqb (turn_number r.turn) (turn_number k.turn))
@@ -101,22 +109,24 @@ same_at c r k g =
     ∙ ap (λ (z : Bool). eqb r.frame.x (k.at.x + c.border) && (z && (eqb (turn_number r.turn) (turn_number k.turn) && true))) (eqb_shift r.frame.y c.border k.at.y g.top)
     ∙ sym (ap (λ (z : Bool). z && (eqb r.frame.x (k.at.x + c.border) && (eqb r.frame.y (k.at.y + c.border) && (eqb (turn_number r.turn) (turn_number k.turn) && true)))) (eq-eqb r.page.0 r.page.0 refl))
 
-pub same-found : (c : Config) (r : Record) (f : Found) (k : Spot) (t u : ℕ) → f ≡ At k → t ≡ turn_number r.turn → u ≡ turn_number k.turn → Good c r
-    → ((eqb (r.frame.x - c.border) k.at.x && eqb (r.frame.y - c.border) k.at.y) && eqb t u)
+pub same-found : (c : Config) (r : Record) (f : Option Spot) (k : Spot) → f ≡ Some k → Good c r
+    → ((eqb (r.frame.x - c.border) k.at.x && eqb (r.frame.y - c.border) k.at.y) && sameb Turn.the_type r.turn k.turn)
     ≡ same_spot r (record_for c (art_of r) r.page.0 f)
-same-found c r f k t u ef et eu g = rw (ef, et, eu) (same_at c r k g)
+same-found c r f k ef g =
+    ap (λ (z : Bool). (eqb (r.frame.x - c.border) k.at.x && eqb (r.frame.y - c.border) k.at.y) && z) (same-turn r.turn k.turn)
+    ∙ rw ef (same_at c r k g)
 
-pub same_none : (c : Config) (r : Record) (p : ℕ) → false ≡ same_spot r (record_for c (art_of r) p Nothing)
+pub same_none : (c : Config) (r : Record) (p : ℕ) → false ≡ same_spot r (record_for c (art_of r) p None)
 unfolding same_spot record_for
 same_none c r p = refl
 
-pub same-nothing : (c : Config) (r : Record) (p : ℕ) (f : Found) → f ≡ Nothing → false ≡ same_spot r (record_for c (art_of r) p f)
+pub same-nothing : (c : Config) (r : Record) (p : ℕ) (f : Option Spot) → f ≡ None → false ≡ same_spot r (record_for c (art_of r) p f)
 same-nothing c r p f e = rw e (same_none c r p)
 
-pub same_elsewhere : (c : Config) (r : Record) (p : ℕ) (f : Found) → (r.page.0 ≡ p → ⊥) → false ≡ same_spot r (record_for c (art_of r) p f)
+pub same_elsewhere : (c : Config) (r : Record) (p : ℕ) (f : Option Spot) → (r.page.0 ≡ p → ⊥) → false ≡ same_spot r (record_for c (art_of r) p f)
 unfolding same_spot record_for record_at all_of
-same_elsewhere c r p Nothing n = refl
-same_elsewhere c r p (At k) n = rw (ne_eqb r.page.0 p n)
+same_elsewhere c r p None n = refl
+same_elsewhere c r p (Some k) n = rw (ne_eqb r.page.0 p n)
 
 -- ## the code's numbers are the rule's
 
@@ -156,7 +166,7 @@ page-is c rs whole area cell p pages ea ec ep h =
     ∙ ap (λ (z : Size). first_fitting (cells_on c rs) (canvas c) c.rotation z pages) ec
     ∙ ap (λ (z : ℕ). first_fitting (cells_on c rs) (canvas c) c.rotation (cell_size c whole) z) ep
 
-pub put_as : (c : Config) (size area cell : Size) (p m : ℕ) (cells : ℕ → List Rect) (f : Found) (xs ys ns : List ℕ) → area ≡ canvas c → cell ≡ cell_size c size
+pub put_as : (c : Config) (size area cell : Size) (p m : ℕ) (cells : ℕ → List Rect) (f : Option Spot) (xs ys ns : List ℕ) → area ≡ canvas c → cell ≡ cell_size c size
     → PutOn area c.rotation cell p m cells f xs ys ns → PutOn (canvas c) c.rotation (cell_size c size) p m cells f xs ys ns
 put_as c size area cell p m cells f xs ys ns ea ec h =
     subst (λ (z : Size). PutOn z c.rotation (cell_size c size) p m cells f xs ys ns) ea
@@ -172,8 +182,8 @@ module _ (c : Config) (rs : List Record) (r : Record) (g : Good c r) where
     after = λ q. let z : ◌≡◌ {A = ℕ} 0 1 = cc in absurd (omega arith);
   }
 
-  grown-here : (k : Spot) → spot_on c (cells_on c rs r.page.0) (size_of (box_of r)) ≡ At k → same_spot r (record_for c (art_of r) r.page.0 (At k)) ≡ true
-      → cells_on c (rs ++ r ∷ []) r.page.0 ≡ grown (cells_on c rs r.page.0) (At k)
+  grown-here : (k : Spot) → spot_on c (cells_on c rs r.page.0) (size_of (box_of r)) ≡ Some k → same_spot r (record_for c (art_of r) r.page.0 (Some k)) ≡ true
+      → cells_on c (rs ++ r ∷ []) r.page.0 ≡ grown (cells_on c rs r.page.0) (Some k)
   unfolding spot_on grown same_spot record_for record_at
   grown-here k e s =
       let a = all_of_lem _ s in
@@ -181,18 +191,18 @@ module _ (c : Config) (rs : List Record) (r : Record) (g : Good c r) where
       ∙ ap (λ (z : Rect). cells_on c rs r.page.0 ++ z ∷ [])
       (cell_back c r k (height (cells_on c rs r.page.0)) (chosen_fits _ _ _ _ k e) (eqb-true _ _ a.1.0) (eqb-true _ _ a.1.1.0) (eqb-true _ _ a.1.1.1.0))
 
-  after-all : (f : Found) → f ≡ spot_on c (cells_on c rs r.page.0) (size_of (box_of r)) → same_spot r (record_for c (art_of r) r.page.0 f) ≡ true
+  after-all : (f : Option Spot) → f ≡ spot_on c (cells_on c rs r.page.0) (size_of (box_of r)) → same_spot r (record_for c (art_of r) r.page.0 f) ≡ true
       → cells_on c (rs ++ r ∷ []) r.page.0 ≡ grown (cells_on c rs r.page.0) f
-  after-all Nothing e s = let n = same_none c r r.page.0 in let z : ◌≡◌ {A = ℕ} 0 1 = cc in absurd (omega arith)
-  after-all (At k) e s = grown-here k (sym e) s
+  after-all None e s = let n = same_none c r r.page.0 in let z : ◌≡◌ {A = ℕ} 0 1 = cc in absurd (omega arith)
+  after-all (Some k) e s = grown-here k (sym e) s
 
-  pub replay_here : (p : ℕ) (f : Found) (so : Bool) (xs ys ns : List ℕ) → p ≡ page_for c rs (whole_of r) → r.page.0 ≡ p
+  pub replay_here : (p : ℕ) (f : Option Spot) (so : Bool) (xs ys ns : List ℕ) → p ≡ page_for c rs (whole_of r) → r.page.0 ≡ p
       → PutOn (canvas c) c.rotation (cell_size c (size_of (box_of r))) p (length rs) (cells_on c rs) f xs ys ns
       → so ≡ same_spot r (record_for c (art_of r) r.page.0 f) → Replayed c rs r so xs ys ns
   unfolding placed art_of spot_on
   replay_here p f so xs ys ns e pe put s = record {
     same = s ∙ ap (λ (z : ℕ). same_spot r (record_for c (art_of r) z f)) (pe ∙ e)
-        ∙ ap (λ (z : Found). same_spot r (record_for c (art_of r) (page_for c rs (whole_of r)) z)) (here ∙ ap (λ (z : ℕ). spot_on c (cells_on c rs z) (size_of (box_of r))) (pe ∙ e));
+        ∙ ap (λ (z : Option Spot). same_spot r (record_for c (art_of r) (page_for c rs (whole_of r)) z)) (here ∙ ap (λ (z : ℕ). spot_on c (cells_on c rs z) (size_of (box_of r))) (pe ∙ e));
     after = λ t.
         subst (λ (m : ℕ). Stands (canvas c).w (cells_on c (rs ++ r ∷ [])) m xs ys ns) (sym (length_snoc rs r))
         (put.stands (cells_on c (rs ++ r ∷ []))

@@ -1,30 +1,29 @@
 -- Keys that differ, whole boxes, and 2 and 3 together: the code's tests are the definitions'. Assumes nothing.
-use Prim.Native.Nat.{ℕ, ◌+◌, ◌≤◌, ◌<◌}
-use mathlib.Core.Path.{◌≡◌, refl, sym, ap, ◌∙◌, subst}
+use Prim.Native.Nat.{ℕ, ◌+◌, ◌<◌}
+use mathlib.Core.Path.{◌≡◌, refl, sym, ap, ◌∙◌}
 use mathlib.Core.Bool.{Bool, true, false, cond, not, ◌&&◌, ◌||◌}
 use mathlib.Core.List.{List, [], ◌∷◌, ◌++◌, map}
-use native.Mathlib.Omega.{arith}
 use native.Mathlib.Numerals.{add-one}
 use lib.ListN.{length, get_or, take, drop, set}
-use lib.Seq.{take_all, drop-length, take-suc-set}
+use lib.Seq.{drop-length, take-suc, take-suc-set}
 use lib.Dec.{eqb}
-use borrow.Author.Tests.{eq-eqb, ne_eqb}
+use Rattle.std.specs.List.{list_any, list_all}
 use Rattle.geometry.specs.Words.{all_of, all, any}
-use Rattle.geometry.specs.declared.rect.Rect.{Rect}
-use Rattle.geometry.specs.declared.rect.Size.{Size}
-use Rattle.geometry.proofs.Words.{not_both, and_no_left, and_no_right}
+use Rattle.geometry.proofs.Words.{and_no_left, and_no_right}
 use Rattle.records.specs.declared.texture_packer_config.Config.{Config}
 use Rattle.records.specs.declared.frame.Record.{Record}
 use Rattle.records.specs.declared.layout.Layout.{Layout}
-use Rattle.records.specs.Records.{whole_of, box_of}
 use Rattle.records.specs.Layouts.{standing, well_formed, has_key, page_count}
-use Rattle.records.proofs.Rows.{and_true}
-use Rattle.records.proofs.Standing.{rest_next, rest_stop, rest_more, rest-done, standing-long, standing-at, standing_next}
+use Rattle.records.proofs.Rows.{hit, skipped, and_true}
+use Rattle.records.proofs.Standing.{rest_next}
 use Rattle.rules.specs.Faithful.{keys_differ, placed_so, whole_if_untrimmed, faithful}
-use Rattle.faithful.specs.Replay.{distinct, key_of, Skies, Ran, Tested, trust, Trusted}
-use Rattle.faithful.specs.declared.replaying.Stand.{Stand}
-use Rattle.faithful.specs.declared.trust.Trust.{Trust}
-use Rattle.faithful.specs.declared.trust.Trust.TheVariants.{Unformed, Unfaithful, StandsOn}
+use Rattle.faithful.specs.Replay.{distinct, key_of, Skies, pages_if, Ran, Tested, trust, Trusted}
+use Rattle.records.specs.Refusals.{Row, first_refusal}
+use Rattle.records.specs.declared.refusal.Refusal.{Refusal}
+use Rattle.records.specs.declared.refusal.Refusal.TheVariants.{NotWellFormed, NotFaithful}
+use mathlib.Core.Option.{some}
+use Rattle.std.specs.Prelude.{Option, Some, None, Result, Ok, Err}
+use Rattle.std.specs.Option.{ok_or}
 use Rattle.rules.proofs.Pages.{map_snoc}
 
 -- ## a loop over a list, from a place on
@@ -32,41 +31,32 @@ use Rattle.rules.proofs.Pages.{map_snoc}
 drop_end : {A : Type 0} (l : List A) (i : ℕ) → i ≡ length l → drop i l ≡ []
 drop_end l i e = ap (λ (j : ℕ). drop j l) e ∙ drop-length l
 
-module _ (l : List ℕ) (k : ℕ) where
-  abbrev is : ℕ → Bool
-  is j = eqb j k
+-- std's words for a test over a list are these
+any-list : {A : Type 0} (t : A → Bool) (l : List A) → list_any t l ≡ any t l
+unfolding any
+any-list t [] = refl
+any-list t (x ∷ xs) = ap (λ (b : Bool). t x || b) (any-list t xs)
 
-  pub any_hit : (i j : ℕ) → j < length l → any is (drop j l) ≡ any is (drop i l) → get_or l j 0 ≡ k → true ≡ any is (drop i l)
-  unfolding any
-  any_hit i j h e y =
-      let z : any is (drop j l) ≡ true = ap (any is) (rest_next (λ n. true) l 0 j h) ∙ ap (λ (b : Bool). b || any is (drop (j + 1) l)) (eq-eqb (get_or l j 0) k y) in
-      sym z ∙ e
+pub all-list : {A : Type 0} (t : A → Bool) (l : List A) → list_all t l ≡ all t l
+unfolding all
+all-list t [] = refl
+all-list t (x ∷ xs) = ap (λ (b : Bool). t x && b) (all-list t xs)
 
-  pub any_more : (i j : ℕ) → j < length l → any is (drop j l) ≡ any is (drop i l) → (get_or l j 0 ≡ k → ⊥) → any is (drop (j + 1) l) ≡ any is (drop i l)
-  unfolding any
-  any_more i j h e n =
-      let z : any is (drop j l) ≡ any is (drop (j + 1) l) = ap (any is) (rest_next (λ n. true) l 0 j h) ∙ ap (λ (b : Bool). b || any is (drop (j + 1) l)) (ne_eqb (get_or l j 0) k n) in
-      sym z ∙ e
-
-  pub any_end : (i j : ℕ) → j ≡ length l → any is (drop j l) ≡ any is (drop i l) → false ≡ any is (drop i l)
-  unfolding any
-  any_end i j h e = sym (ap (any is) (drop_end l j h)) ∙ e
-
-module _ (l : List ℕ) where
-  step : (i : ℕ) (b : Bool) → i < length l → b ≡ any (λ (j : ℕ). eqb j (get_or l i 0)) (drop (i + 1) l) → distinct (drop i l) ≡ (not b && distinct (drop (i + 1) l))
+module _ (l : List ℕ) (i : ℕ) (h : i < length l) where
+  step : (b : Bool) → b ≡ list_any (λ (j : ℕ). eqb j (get_or l i 0)) (drop (i + 1) l) → distinct (drop i l) ≡ (not b && distinct (drop (i + 1) l))
   unfolding distinct
-  step i b h e = ap distinct (rest_next (λ n. true) l 0 i h) ∙ ap (λ (z : Bool). not z && distinct (drop (i + 1) l)) (sym e)
+  step b e = ap distinct (rest_next (λ n. true) l 0 i h) ∙ ap (λ (z : Bool). not z && distinct (drop (i + 1) l)) (sym (e ∙ any-list _ _))
 
-  pub distinct_hit : (i : ℕ) (b : Bool) → i < length l → b ≡ any (λ (j : ℕ). eqb j (get_or l i 0)) (drop (i + 1) l) → b ≡ true → distinct (drop i l) ≡ distinct l → false ≡ distinct l
-  distinct_hit i b h e t p = sym (step i true h (sym t ∙ e)) ∙ p
+  pub distinct_hit : (b : Bool) → b ≡ list_any (λ (j : ℕ). eqb j (get_or l i 0)) (drop (i + 1) l) → b ≡ true → distinct (drop i l) ≡ distinct l → false ≡ distinct l
+  distinct_hit b e t p = sym (step true (sym t ∙ e)) ∙ p
 
-  pub distinct_more : (i : ℕ) (b : Bool) → i < length l → b ≡ any (λ (j : ℕ). eqb j (get_or l i 0)) (drop (i + 1) l) → b ≡ false → distinct (drop i l) ≡ distinct l
+  pub distinct_more : (b : Bool) → b ≡ list_any (λ (j : ℕ). eqb j (get_or l i 0)) (drop (i + 1) l) → b ≡ false → distinct (drop i l) ≡ distinct l
       → distinct (drop (i + 1) l) ≡ distinct l
-  distinct_more i b h e t p = sym (step i false h (sym t ∙ e)) ∙ p
+  distinct_more b e t p = sym (step false (sym t ∙ e)) ∙ p
 
-  pub distinct_end : (i : ℕ) → i ≡ length l → distinct (drop i l) ≡ distinct l → true ≡ distinct l
-  unfolding distinct
-  distinct_end i h p = sym (ap distinct (drop_end l i h)) ∙ p
+pub distinct_end : (l : List ℕ) (i : ℕ) → i ≡ length l → distinct (drop i l) ≡ distinct l → true ≡ distinct l
+unfolding distinct
+distinct_end l i h p = sym (ap distinct (drop_end l i h)) ∙ p
 
 any_keys : (k : ℕ) (rs : List Record) → any (λ (j : ℕ). eqb j k) (map key_of rs) ≡ any (λ (r : Record). eqb r.key.0 k) rs
 unfolding any
@@ -78,64 +68,44 @@ unfolding distinct keys_differ has_key
 keys_distinct [] = refl
 keys_distinct (r ∷ rs) = ap (λ (b : Bool). not b && distinct (map key_of rs)) (any_keys r.key.0 rs) ∙ ap (λ (b : Bool). not (any (has_key r.key) rs) && b) (keys_distinct rs)
 
--- ## over the standing records
+-- ## the keys of records, copied
 
-module _ (l : Layout) (long : length l.records ≡ 256) (n : l.count ≤ 256) (d : Record) where
-  pub keys_more : (keys : List ℕ) (i : ℕ) → i < l.count → i < length keys → take i keys ≡ map key_of (take i (standing l))
-      → take (i + 1) (set keys i (get_or l.records i d).key.0) ≡ map key_of (take (i + 1) (standing l))
-  keys_more keys i h m e =
-      ap (λ (j : ℕ). take j (set keys i (get_or l.records i d).key.0)) (add-one i)
-      ∙ take-suc-set keys i (get_or l.records i d).key.0 m
-      ∙ ap (λ (z : List ℕ). z ++ (get_or l.records i d).key.0 ∷ []) e
-      ∙ sym (ap (map key_of) (standing_next l long n d i h) ∙ map_snoc key_of (take i (standing l)) (get_or l.records i d))
-
-  pub keys_done : (keys : List ℕ) (i : ℕ) → i ≡ l.count → take i keys ≡ map key_of (take i (standing l)) → take l.count keys ≡ map key_of (standing l)
-  keys_done keys i h e =
-      let m = standing-long l long n in
-      ap (λ (j : ℕ). take j keys) (sym h) ∙ e ∙ ap (map key_of) (take_all i (standing l) (omega arith))
-
-  -- a test over the standing records, from one on
-  module _ (t : Record → Bool) where
-    at_test : (i : ℕ) (b : Bool) → i < l.count → b ≡ t (get_or l.records i d) → b ≡ t (get_or (standing l) i d)
-    at_test i b h e = e ∙ ap t (sym (standing-at l long n d i h))
-
-    pub all_stop : (i : ℕ) (b : Bool) → i < l.count → b ≡ t (get_or l.records i d) → b ≡ false → all t (drop i (standing l)) ≡ all t (standing l) → false ≡ all t (standing l)
-    all_stop i b h e f p = let m = standing-long l long n in sym (rest_stop t (standing l) d i b (omega arith) (at_test i b h e) f) ∙ p
-
-    pub all_more : (i : ℕ) (b : Bool) → i < l.count → b ≡ t (get_or l.records i d) → b ≡ true → all t (drop i (standing l)) ≡ all t (standing l)
-        → all t (drop (i + 1) (standing l)) ≡ all t (standing l)
-    all_more i b h e f p = let m = standing-long l long n in rest_more t (standing l) d i b (omega arith) (at_test i b h e) f ∙ p
-
-    pub all_done : (i : ℕ) → i ≡ l.count → all t (drop i (standing l)) ≡ all t (standing l) → true ≡ all t (standing l)
-    all_done i h p = let m = standing-long l long n in sym (rest-done t (standing l) d i (omega arith)) ∙ p
+pub keys_more : (rs : List Record) (d : Record) (keys : List ℕ) (i : ℕ) → i < length rs → i < length keys → take i keys ≡ map key_of (take i rs)
+    → take (i + 1) (set keys i (get_or rs i d).key.0) ≡ map key_of (take (i + 1) rs)
+keys_more rs d keys i h m e =
+    ap (λ (j : ℕ). take j (set keys i (get_or rs i d).key.0)) (add-one i)
+    ∙ take-suc-set keys i (get_or rs i d).key.0 m
+    ∙ ap (λ (z : List ℕ). z ++ (get_or rs i d).key.0 ∷ []) e
+    ∙ sym (ap (map key_of) (ap (λ (j : ℕ). take j rs) (add-one i) ∙ take-suc rs i d h) ∙ map_snoc key_of (take i rs) (get_or rs i d))
 
 -- ## the three tests
 
-module _ (l : Layout) (xs ys ns : List ℕ) where
-  pub test_keys : (b : Bool) → b ≡ keys_differ (standing l) → b ≡ false → Tested l (record { so = false; pages = 0 }) xs ys ns
+module _ (l : Layout) where
+  pub unlike_keys : keys_differ (standing l) ≡ false → faithful l ≡ false
   unfolding faithful all_of
-  test_keys b e f = record {
-    so = sym (and_no_left (keys_differ (standing l)) (placed_so l.config [] (standing l) && (all (whole_if_untrimmed l.config) (standing l) && true)) (sym e ∙ f));
-    skies = λ q. absurd (not_both q refl);
-  }
+  unlike_keys e = and_no_left (keys_differ (standing l)) (placed_so l.config [] (standing l) && (all (whole_if_untrimmed l.config) (standing l) && true)) e
 
-  pub test_whole : (b : Bool) → b ≡ all (whole_if_untrimmed l.config) (standing l) → b ≡ false → Tested l (record { so = false; pages = 0 }) xs ys ns
+  pub unlike_boxes : all (whole_if_untrimmed l.config) (standing l) ≡ false → faithful l ≡ false
   unfolding faithful all_of
-  test_whole b e f = record {
-    so = sym (and_no_right (keys_differ (standing l)) (placed_so l.config [] (standing l) && (all (whole_if_untrimmed l.config) (standing l) && true))
-        (and_no_right (placed_so l.config [] (standing l)) (all (whole_if_untrimmed l.config) (standing l) && true)
-        (and_no_left (all (whole_if_untrimmed l.config) (standing l)) true (sym e ∙ f))));
-    skies = λ q. absurd (not_both q refl);
-  }
+  unlike_boxes e =
+      and_no_right (keys_differ (standing l)) (placed_so l.config [] (standing l) && (all (whole_if_untrimmed l.config) (standing l) && true))
+      (and_no_right (placed_so l.config [] (standing l)) (all (whole_if_untrimmed l.config) (standing l) && true)
+      (and_no_left (all (whole_if_untrimmed l.config) (standing l)) true e))
 
-  pub test_all : (a b : Bool) (r : Stand) → a ≡ keys_differ (standing l) → a ≡ true → b ≡ all (whole_if_untrimmed l.config) (standing l) → b ≡ true → Ran l r xs ys ns → Tested l r xs ys ns
-  unfolding faithful all_of
-  test_all a b r ea ta eb tb rn = record {
-    so = rn.so ∙ and_true (placed_so l.config [] (standing l))
-        ∙ ap (λ (z : Bool). placed_so l.config [] (standing l) && (z && true)) (sym tb ∙ eb)
-        ∙ ap (λ (z : Bool). z && (placed_so l.config [] (standing l) && (all (whole_if_untrimmed l.config) (standing l) && true))) (sym ta ∙ ea);
-    skies = rn.skies;
-  }
+  module _ (xs ys ns : List ℕ) where
+    pub test_none : faithful l ≡ false → Tested l None xs ys ns
+    test_none e = record { is = sym (ap (λ (z : Bool). pages_if z l) e); skies = λ p q. absurd (cc) }
+
+    pub test_all : (r : Option ℕ) → keys_differ (standing l) ≡ true → all (whole_if_untrimmed l.config) (standing l) ≡ true → Ran l r xs ys ns → Tested l r xs ys ns
+    unfolding faithful all_of
+    test_all r k w rn = record {
+      is = rn.is
+          ∙ ap (λ (z : Bool). pages_if z l)
+          (and_true (placed_so l.config [] (standing l))
+          ∙ ap (λ (z : Bool). placed_so l.config [] (standing l) && (z && true)) (sym w)
+          ∙ ap (λ (z : Bool). z && (placed_so l.config [] (standing l) && (all (whole_if_untrimmed l.config) (standing l) && true))) (sym k));
+      skies = rn.skies;
+    }
 
 -- ## a box that is the whole image
 
@@ -143,83 +113,51 @@ pub whole_trim : (c : Config) (r : Record) → c.trim ≡ true → true ≡ whol
 unfolding whole_if_untrimmed
 whole_trim c r e = rw e
 
-and_four : (p q r s : Bool) → (((p && q) && r) && s) ≡ (p && (q && (r && (s && true))))
-and_four true true true true = refl
-and_four true true true false = refl
-and_four true true false s = refl
-and_four true false r s = refl
-and_four false q r s = refl
-
-pub whole_row : (c : Config) (r : Record) (k : Rect) (s : Size) → c.trim ≡ false → k ≡ box_of r → s ≡ whole_of r
-    → (((eqb k.x 0 && eqb k.y 0) && eqb k.w s.w) && eqb k.h s.h) ≡ whole_if_untrimmed c r
-unfolding whole_if_untrimmed all_of whole_of
-whole_row c r k s e ek es =
-    and_four (eqb k.x 0) (eqb k.y 0) (eqb k.w s.w) (eqb k.h s.h)
-    ∙ ap (λ (z : Rect). eqb z.x 0 && (eqb z.y 0 && (eqb z.w s.w && (eqb z.h s.h && true)))) ek
-    ∙ ap (λ (z : Size). eqb (box_of r).x 0 && (eqb (box_of r).y 0 && (eqb (box_of r).w z.w && (eqb (box_of r).h z.h && true)))) es
-    ∙ ap (λ (t : Bool). t || (eqb (box_of r).x 0 && (eqb (box_of r).y 0 && (eqb (box_of r).w r.source.w && (eqb (box_of r).h r.source.h && true))))) (sym e)
-
+-- TODO
 -- ## 2 and 3
 
-module _ (l : Layout) where
-  module _ (xs ys ns : List ℕ) where
-    pub trust-unformed : (b : Bool) → b ≡ well_formed l → b ≡ false → Trusted l Unformed xs ys ns
-    unfolding trust
-    trust-unformed b e f = record {
-      is = rw (sym e ∙ f);
-      skies = λ p q. let z : ◌≡◌ {A = ℕ} 0 1 = cc in absurd (omega arith);
-    }
+module _ (l : Layout) (xs ys ns : List ℕ) where
+  pub trust-unformed : well_formed l ≡ false → Trusted l (Err NotWellFormed) xs ys ns
+  unfolding trust
+  trust-unformed e = record { is = rw e; skies = λ p q. absurd (cc) }
 
-    pub trust-not : (b : Bool) (s : Stand) → b ≡ well_formed l → b ≡ true → Tested l s xs ys ns → s.so ≡ false → Trusted l Unfaithful xs ys ns
-    unfolding trust
-    trust-not b s e f t g = record {
-      is = rw (sym e ∙ f, sym t.so ∙ g);
-      skies = λ p q. let z : ◌≡◌ {A = ℕ} 0 1 = cc in absurd (omega arith);
-    }
+  pub trust-tested : (s : Option ℕ) → well_formed l ≡ true → Tested l s xs ys ns → Trusted l (ok_or s NotFaithful) xs ys ns
+  unfolding trust
+  trust-tested s e t = record { is = ap (λ (z : Option ℕ). ok_or z NotFaithful) t.is ∙ go (faithful l) ∙ rw e; skies = keeps s t.skies }
+    where
+      go : (b : Bool) → ok_or (pages_if b l) NotFaithful ≡ cond b (Ok (page_count (standing l))) (Err NotFaithful)
+      go true = refl
+      go false = refl
 
-    pub trust_on : (b : Bool) (s : Stand) → b ≡ well_formed l → b ≡ true → Tested l s xs ys ns → s.so ≡ true → Trusted l (StandsOn s.pages) xs ys ns
-    unfolding trust
-    trust_on b s e f t g = record {
-      is = rw (sym e ∙ f, sym t.so ∙ g) (ap StandsOn (t.skies g).count);
-      skies = λ p q. let z : s.pages ≡ p = cc in subst (λ (n : ℕ). Skies l.config (standing l) n xs ys ns) z (t.skies g);
-    }
+      keeps : (s : Option ℕ) → ((p : ℕ) → s ≡ Some p → Skies l.config (standing l) p xs ys ns) → (p : ℕ) → ok_or s NotFaithful ≡ Ok p → Skies l.config (standing l) p xs ys ns
+      keeps None h p q = absurd (cc)
+      keeps (Some n) h p q = h p (cc)
 
 -- ## what the answer says of the layout
 
-module _ (l : Layout) (t : Trust) (e : t ≡ trust l) where
-  told : (w : Bool) → well_formed l ≡ w → (f : Bool) → faithful l ≡ f → t ≡ cond w (cond f (StandsOn (page_count (standing l))) Unfaithful) Unformed
+module _ (l : Layout) (t : Result ℕ Refusal) (e : t ≡ trust l) where
+  told : (w : Bool) → well_formed l ≡ w → (f : Bool) → faithful l ≡ f → t ≡ cond w (cond f (Ok (page_count (standing l))) (Err NotFaithful)) (Err NotWellFormed)
   unfolding trust
-  told w ew f ef = e ∙ ap (λ (z : Bool). cond z (cond (faithful l) (StandsOn (page_count (standing l))) Unfaithful) Unformed) ew
-      ∙ ap (λ (z : Bool). cond w (cond z (StandsOn (page_count (standing l))) Unfaithful) Unformed) ef
+  told w ew f ef = e ∙ ap (λ (z : Bool). cond z (cond (faithful l) (Ok (page_count (standing l))) (Err NotFaithful)) (Err NotWellFormed)) ew
+      ∙ ap (λ (z : Bool). cond w (cond z (Ok (page_count (standing l))) (Err NotFaithful)) (Err NotWellFormed)) ef
 
-  pub unformed : t ≡ Unformed → well_formed l ≡ false
-  unformed q = go (well_formed l) refl (faithful l) refl
+  -- which of 2 and 3 was first to hold
+  pub distrusted : (n : Refusal) → t ≡ Err n → (rest : Row) → first_refusal ((not (well_formed l), NotWellFormed) ∷ (not (faithful l), NotFaithful) ∷ rest) ≡ some n
+  distrusted n q rest = go (well_formed l) refl (faithful l) refl
     where
-      go : (w : Bool) → well_formed l ≡ w → (f : Bool) → faithful l ≡ f → well_formed l ≡ false
-      go false ew f ef = ew
-      go true ew true ef = let z = told true ew true ef in let y : ◌≡◌ {A = ℕ} 0 1 = cc in absurd (omega arith)
-      go true ew false ef = let z = told true ew false ef in let y : ◌≡◌ {A = ℕ} 0 1 = cc in absurd (omega arith)
-
-  pub record Formed3 : Type 0 where
-    pub formed : well_formed l ≡ true
-    pub unfaithful : faithful l ≡ false
-
-  pub not-faithful : t ≡ Unfaithful → Formed3
-  not-faithful q = go (well_formed l) refl (faithful l) refl
-    where
-      go : (w : Bool) → well_formed l ≡ w → (f : Bool) → faithful l ≡ f → Formed3
-      go false ew f ef = let z = told false ew f ef in let y : ◌≡◌ {A = ℕ} 0 1 = cc in absurd (omega arith)
-      go true ew true ef = let z = told true ew true ef in let y : ◌≡◌ {A = ℕ} 0 1 = cc in absurd (omega arith)
-      go true ew false ef = record { formed = ew; unfaithful = ef }
+      go : (w : Bool) → well_formed l ≡ w → (f : Bool) → faithful l ≡ f → first_refusal ((not (well_formed l), NotWellFormed) ∷ (not (faithful l), NotFaithful) ∷ rest) ≡ some n
+      go false ew f ef = let z = told false ew f ef in let y : NotWellFormed ≡ n = cc in hit _ NotWellFormed _ (ap not ew) ∙ ap some y
+      go true ew true ef = let z = told true ew true ef in absurd (cc)
+      go true ew false ef = let z = told true ew false ef in let y : NotFaithful ≡ n = cc in skipped _ NotWellFormed _ (ap not ew) ∙ hit _ NotFaithful _ (ap not ef) ∙ ap some y
 
   pub record Formed2 : Type 0 where
     pub formed : well_formed l ≡ true
     pub is-faithful : faithful l ≡ true
 
-  pub stands_on : (p : ℕ) → t ≡ StandsOn p → Formed2
+  pub stands_on : (p : ℕ) → t ≡ Ok p → Formed2
   stands_on p q = go (well_formed l) refl (faithful l) refl
     where
       go : (w : Bool) → well_formed l ≡ w → (f : Bool) → faithful l ≡ f → Formed2
-      go false ew f ef = let z = told false ew f ef in let y : ◌≡◌ {A = ℕ} 0 1 = cc in absurd (omega arith)
+      go false ew f ef = let z = told false ew f ef in absurd (cc)
       go true ew true ef = record { formed = ew; is-faithful = ef }
-      go true ew false ef = let z = told true ew false ef in let y : ◌≡◌ {A = ℕ} 0 1 = cc in absurd (omega arith)
+      go true ew false ef = let z = told true ew false ef in absurd (cc)

@@ -1,24 +1,19 @@
 -- What the replay of the records leaves: the skylines of the pages as they stand. Words of the code, not rules of document 01.
 -- Assumes nothing.
-use Rattle.std.specs.Prelude.{ℕ, ◌≤◌, ◌<◌, ◌≡◌, Bool, true, cond, not, ◌&&◌, List, [], ◌∷◌, ◌++◌, length, eqb}
-use Rattle.std.proofs.Math.Option.{Option, none, some}
+use Rattle.std.specs.Prelude.{ℕ, ◌≤◌, ◌<◌, ◌≡◌, Bool, true, cond, not, ◌&&◌, List, [], ◌∷◌, ◌++◌, length, eqb, Option, Some, None, Result, Ok, Err}
+use Rattle.std.proofs.Math.Option.{Option as Maybe, none, some}
 use Rattle.geometry.specs.Words.{any}
 use Rattle.geometry.specs.declared.rect.Size.{Size}
 use Rattle.geometry.specs.declared.spot.Spot.{Spot}
-use Rattle.geometry.specs.declared.spot.Found.{Found}
-use Rattle.geometry.specs.declared.spot.Found.TheVariants.{At}
 use Rattle.pages.specs.Pages.{Stands}
 use Rattle.records.specs.Layouts.{standing, well_formed, page_count}
 use Rattle.records.specs.declared.texture_packer_config.Config.{Config}
 use Rattle.records.specs.declared.frame.Record.{Record}
 use Rattle.records.specs.declared.layout.Layout.{Layout}
+use Rattle.records.specs.declared.refusal.Refusal.{Refusal}
+use Rattle.records.specs.declared.refusal.Refusal.TheVariants.{NotWellFormed, NotFaithful, TooLarge}
 use Rattle.rules.specs.Placing.{canvas, cells_on, placed}
 use Rattle.rules.specs.Faithful.{art_of, same_spot, placed_so, faithful}
-use Rattle.faithful.specs.declared.placing.Outcome.{Outcome}
-use Rattle.faithful.specs.declared.placing.Outcome.TheVariants.{Nowhere, Stood}
-use Rattle.faithful.specs.declared.replaying.Stand.{Stand}
-use Rattle.faithful.specs.declared.trust.Trust.{Trust}
-use Rattle.faithful.specs.declared.trust.Trust.TheVariants.{Unformed, Unfaithful, StandsOn}
 
 -- a size that is 1 to 2048 on each side
 pub record Sized (s : Size) : Type 0 where
@@ -28,8 +23,8 @@ pub record Sized (s : Size) : Type 0 where
   pub few_h : s.h ≤ 2048
 
 -- a spot's corner is small enough to add a border
-abbrev pub Near : Found → Type 0
-Near f = (k : Spot) → f ≡ At k → (k.at.x ≤ 4096) × (k.at.y ≤ 4096)
+abbrev pub Near : Option Spot → Type 0
+Near f = (k : Spot) → f ≡ Some k → (k.at.x ≤ 4096) × (k.at.y ≤ 4096)
 
 -- the skylines of the pages on which some records stand, and how many pages there are
 pub record Skies (c : Config) (rs : List Record) (pages : ℕ) (xs ys ns : List ℕ) : Type 0 where
@@ -47,20 +42,24 @@ pub record Replayed (c : Config) (rs : List Record) (r : Record) (so : Bool) (xs
 
 -- ## the whole replay
 
-pub record Ran (l : Layout) (r : Stand) (xs ys ns : List ℕ) : Type 0 where
-  pub so : r.so ≡ placed_so l.config [] (standing l)
-  pub skies : r.so ≡ true → Skies l.config (standing l) r.pages xs ys ns
+-- the number of the pages, if the records stand so
+abbrev pub pages_if : Bool → Layout → Option ℕ
+pages_if so l = cond so (Some (page_count (standing l))) None
+
+pub record Ran (l : Layout) (r : Option ℕ) (xs ys ns : List ℕ) : Type 0 where
+  pub is : r ≡ pages_if (placed_so l.config [] (standing l)) l
+  pub skies : (pages : ℕ) → r ≡ Some pages → Skies l.config (standing l) pages xs ys ns
 
 -- the answer is whether the layout is faithful, and if it is, the skylines are those of its records
-pub record Tested (l : Layout) (r : Stand) (xs ys ns : List ℕ) : Type 0 where
-  pub so : r.so ≡ faithful l
-  pub skies : r.so ≡ true → Skies l.config (standing l) r.pages xs ys ns
+pub record Tested (l : Layout) (r : Option ℕ) (xs ys ns : List ℕ) : Type 0 where
+  pub is : r ≡ pages_if (faithful l) l
+  pub skies : (pages : ℕ) → r ≡ Some pages → Skies l.config (standing l) pages xs ys ns
 
--- ## the record of an image at a spot
+-- ## the record of an image at a spot; without a spot it is too large
 
-abbrev pub stood : Option Record → Outcome
-stood none = Nowhere
-stood (some r) = Stood r
+abbrev pub stood : Maybe Record → Result Record Refusal
+stood none = Err TooLarge
+stood (some r) = Ok r
 
 -- ## keys, as numbers
 
@@ -74,9 +73,9 @@ key_of r = r.key.0
 
 -- ## 2 and 3, for every layout; past them, the skylines of its records
 
-unfoldable pub trust : Layout → Trust
-trust l = cond (well_formed l) (cond (faithful l) (StandsOn (page_count (standing l))) Unfaithful) Unformed
+unfoldable pub trust : Layout → Result ℕ Refusal
+trust l = cond (well_formed l) (cond (faithful l) (Ok (page_count (standing l))) (Err NotFaithful)) (Err NotWellFormed)
 
-pub record Trusted (l : Layout) (t : Trust) (xs ys ns : List ℕ) : Type 0 where
+pub record Trusted (l : Layout) (t : Result ℕ Refusal) (xs ys ns : List ℕ) : Type 0 where
   pub is : t ≡ trust l
-  pub skies : (pages : ℕ) → t ≡ StandsOn pages → Skies l.config (standing l) pages xs ys ns
+  pub skies : (pages : ℕ) → t ≡ Ok pages → Skies l.config (standing l) pages xs ys ns

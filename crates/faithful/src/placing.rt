@@ -7,18 +7,11 @@ ghost use Rattle.faithful.specs.Replay.{Sized, Near, stood};
 
 use geometry::rect::{Rect, Size};
 use geometry::spot;
-use geometry::spot::Found;
+use geometry::spot::Spot;
 use records::frame::{Page, Record, Source};
+use records::refusal::Refusal;
 use records::texture_packer_config::Config;
 use rules::placing::Art;
-
-// What one step of an offer comes to.
-#[derive(Clone, Copy)]
-pub enum Outcome {
-    Full,
-    Nowhere,
-    Stood(Record),
-}
 
 pub fn canvas_of(c: Config) -> Size
     requires { in_bounds c ≡ true }
@@ -41,49 +34,41 @@ pub fn cell_size(c: Config, s: Size) -> Size
     }
 }
 
-pub fn record_for(c: Config, a: Art, p: u32, f: Found) -> Outcome
+// The record of an image at a spot. Where there is none the image is too large.
+pub fn record_for(c: Config, a: Art, p: u32, f: Option<Spot>) -> Result<Record, Refusal>
     requires { (in_bounds c ≡ true) × Near f }
     ensures { result ≡ stood (record_for c a p f) }
 {
-    match f {
-        Found::Nothing => Outcome::Nowhere,
-        Found::At(k) => {
-            let at = k.at;
-            let turn = k.turn;
-            let kept = a.kept;
-            let whole = a.whole;
-            let lies = spot::lying_size(
-                turn,
-                Size {
-                    w: kept.w,
-                    h: kept.h,
-                },
-            );
-            let frame = Rect {
-                x: at.x + c.border,
-                y: at.y + c.border,
-                w: lies.w,
-                h: lies.h,
-            };
-            let source = Source {
-                x: kept.x,
-                y: kept.y,
-                w: whole.w,
-                h: whole.h,
-            };
-            let key = a.key;
-            let store = a.store;
-            let page = Page(p);
-            Outcome::Stood(Record {
-                key,
-                page,
-                frame,
-                turn,
-                trimmed: c.trim,
-                source,
-                store,
-                offset: a.offset,
-            })
-        }
-    }
+    let k = f.ok_or(Refusal::TooLarge)?;
+    let kept = a.kept;
+    let whole = a.whole;
+    let lies = spot::lying_size(
+        k.turn,
+        Size {
+            w: kept.w,
+            h: kept.h,
+        },
+    );
+    let frame = Rect {
+        x: k.at.x + c.border,
+        y: k.at.y + c.border,
+        w: lies.w,
+        h: lies.h,
+    };
+    let source = Source {
+        x: kept.x,
+        y: kept.y,
+        w: whole.w,
+        h: whole.h,
+    };
+    Ok(Record {
+        key: a.key,
+        page: Page(p),
+        frame,
+        turn: k.turn,
+        trimmed: c.trim,
+        source,
+        store: a.store,
+        offset: a.offset,
+    })
 }

@@ -11,37 +11,21 @@ ghost use Rattle.faithful.specs.Replay.{Skies, SomeSkies, Replayed, Ran};
 
 use crate::placing;
 use geometry::rect::Size;
-use geometry::spot;
-use geometry::spot::Found;
+use geometry::spot::Spot;
 use records::frame;
-use records::frame::{Page, Record};
+use records::frame::Record;
 use records::layout::Layout;
 use records::texture_packer_config::Config;
 
-// Whether every record stands where the rule puts it, and how many pages there are.
-#[derive(Clone, Copy)]
-pub struct Stand {
-    pub so: bool,
-    pub pages: usize,
-}
-
 // Whether a spot on the record's page is the record's.
-fn same_spot(c: Config, r: Record, f: Found) -> bool
+fn same_spot(c: Config, r: Record, f: Option<Spot>) -> bool
     requires { (in_bounds c ≡ true) × (record_well_formed c r ≡ true) }
     ensures { result ≡ same_spot r (record_for c (art_of r) r.page.0 f) }
 {
+    let b = c.border;
     match f {
-        Found::Nothing => false,
-        Found::At(k) => {
-            let frame = r.frame;
-            let at = k.at;
-            let t = r.turn;
-            let u = k.turn;
-            let b = c.border;
-            (frame.x - b == at.x)
-                & (frame.y - b == at.y)
-                & (spot::turn_number(t) == spot::turn_number(u))
-        }
+        None => false,
+        Some(k) => (r.frame.x - b, r.frame.y - b, r.turn) == (k.at.x, k.at.y, k.turn),
     }
 }
 
@@ -78,32 +62,22 @@ fn replay_one(
     same_spot(c, r, f)
 }
 
-fn more_pages(pages: usize, page: Page) -> usize
-    ensures { result ≡ max pages (page.0 + 1) }
-{
-    let n = page.0 as usize + 1;
-    if pages < n { n } else { pages }
-}
-
-// The standing records placed again, one after the other, on empty pages.
-pub fn replay(l: Layout, xs: &mut [u32], ys: &mut [u32], ns: &mut [usize]) -> Stand
+// The standing records placed again, one after the other, on empty pages: how many pages there are, if every record stands where the rule
+// puts it.
+pub fn replay(l: Layout, xs: &mut [u32], ys: &mut [u32], ns: &mut [usize]) -> Option<usize>
     requires l_value { well_formed l ≡ true }
     requires long { Long xs.old ys.old ns.old }
     ensures { Ran l result xs.new ys.new ns.new }
 {
     let c = l.config;
-    let count = l.count;
     pages::fresh_pages(xs, ys, ns, c.maxw);
     let mut pages = 0;
-    let mut i = 0;
-    while i < count {
-        let r = l.records[i];
-        let so = replay_one(xs, ys, ns, c, pages, r);
-        if !so {
-            return Stand { so: false, pages };
+    let standing = &l.records[..l.count];
+    for r in standing {
+        if !replay_one(xs, ys, ns, c, pages, *r) {
+            return None;
         }
-        pages = more_pages(pages, r.page);
-        i += 1;
+        pages = pages.max(r.page.0 as usize + 1);
     }
-    Stand { so: true, pages }
+    Some(pages)
 }

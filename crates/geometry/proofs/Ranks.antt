@@ -1,4 +1,5 @@
 -- The choice by an order: the best is one of what it is given, and nothing given stands before it. Assumes nothing.
+use Rattle.std.specs.Prelude.{Option, Some, None}
 use Prim.Native.Nat.{ℕ, ◌≤◌, ◌<◌}
 use native.Mathlib.Omega.{arith}
 use mathlib.Core.Path.{◌≡◌, refl, sym, ◌∙◌, ap}
@@ -13,8 +14,6 @@ use Rattle.geometry.specs.Placing.{better, best_of}
 use Rattle.geometry.specs.Fits.{Picks}
 use Rattle.geometry.proofs.Words.{not_both}
 use Rattle.geometry.specs.declared.spot.Spot.{Spot}
-use Rattle.geometry.specs.declared.spot.Found.{Found}
-use Rattle.geometry.specs.declared.spot.Found.TheVariants.{Nothing, At}
 
 -- ## lists of numbers, one before the other
 
@@ -77,91 +76,91 @@ module _ (order : Spot → List ℕ) where
   abbrev NotBefore : Spot → Spot → Type 0
   NotBefore j k = before (order j) (order k) ≡ true → ⊥
 
-  pub best_append : (o : Found) (l m : List Spot) → best_of order o (l ++ m) ≡ best_of order (best_of order o l) m
+  pub best_append : (o : Option Spot) (l m : List Spot) → best_of order o (l ++ m) ≡ best_of order (best_of order o l) m
   unfolding best_of
   best_append o [] m = refl
   best_append o (k ∷ l) m = best_append (better order o k) l m
 
   -- ## the best is one of its list, and there is one where the list has one
 
-  picks : (o : Found) (j : Spot) (js : List Spot) {k : Spot} → better order o j ≡ At k → (o ≡ At k) ⊎ Memᴰ k (j ∷ js)
+  picks : (o : Option Spot) (j : Spot) (js : List Spot) {k : Spot} → better order o j ≡ Some k → (o ≡ Some k) ⊎ Memᴰ k (j ∷ js)
   unfolding better
-  picks Nothing j js {k} e = let q : k ≡ j = cc in inr (Memᴰ.head q)
-  picks (At i) j js {k} e = go (before (order j) (order i)) e
+  picks None j js {k} e = let q : k ≡ j = cc in inr (Memᴰ.head q)
+  picks (Some i) j js {k} e = go (before (order j) (order i)) e
     where
-      go : (b : Bool) → At (cond b j i) ≡ At k → (At i ≡ At k) ⊎ Memᴰ k (j ∷ js)
+      go : (b : Bool) → Some (cond b j i) ≡ Some k → (Some i ≡ Some k) ⊎ Memᴰ k (j ∷ js)
       go true q = let z : k ≡ j = cc in inr (Memᴰ.head z)
       go false q = inl q
 
-  best_mem : (o : Found) (l : List Spot) {k : Spot} → best_of order o l ≡ At k → (o ≡ At k) ⊎ Memᴰ k l
+  best_mem : (o : Option Spot) (l : List Spot) {k : Spot} → best_of order o l ≡ Some k → (o ≡ Some k) ⊎ Memᴰ k l
   unfolding best_of
   best_mem o [] e = inl e
   best_mem o (j ∷ js) {k} e = go (best_mem (better order o j) js e)
     where
-      go : (better order o j ≡ At k) ⊎ Memᴰ k js → (o ≡ At k) ⊎ Memᴰ k (j ∷ js)
+      go : (better order o j ≡ Some k) ⊎ Memᴰ k js → (o ≡ Some k) ⊎ Memᴰ k (j ∷ js)
       go (inl q) = picks o j js q
       go (inr m) = inr (Memᴰ.tail m)
 
-  pub best_some : (i : Spot) (l : List Spot) → (j : Spot) × (best_of order (At i) l ≡ At j)
+  pub best_some : (i : Spot) (l : List Spot) → (j : Spot) × (best_of order (Some i) l ≡ Some j)
   unfolding best_of better
   best_some i [] = (i, refl)
   best_some i (k ∷ ks) = best_some (cond (before (order k) (order i)) k i) ks
 
-  best_gives : (l : List Spot) (k : Spot) → Memᴰ k l → (j : Spot) × (best_of order Nothing l ≡ At j)
+  best_gives : (l : List Spot) (k : Spot) → Memᴰ k l → (j : Spot) × (best_of order None l ≡ Some j)
   unfolding best_of better
   best_gives [] k m = absurd (Memᴰ.not-nil m)
   best_gives (j ∷ js) k m = best_some j js
 
-  pub best_picks : Picks (best_of order Nothing)
+  pub best_picks : Picks (best_of order None)
   best_picks = record {
-    given = λ l k e. go l k (best_mem Nothing l e);
+    given = λ l k e. go l k (best_mem None l e);
     gives = best_gives;
   }
     where
-      go : (l : List Spot) (k : Spot) → (Nothing ≡ At k) ⊎ Memᴰ k l → Memᴰ k l
+      go : (l : List Spot) (k : Spot) → (None ≡ Some k) ⊎ Memᴰ k l → Memᴰ k l
       go l k (inl q) = let z : ◌≡◌ {A = ℕ} 0 1 = cc in absurd (omega arith)
       go l k (inr m) = m
 
   -- ## nothing stands before the best
 
   -- what does not stand before the best so far does not stand before the better of it and the next
-  first_step : (i j k m : Spot) → better order (At i) k ≡ At m → NotBefore j i → NotBefore j m
+  first_step : (i j k m : Spot) → better order (Some i) k ≡ Some m → NotBefore j i → NotBefore j m
   unfolding better
   first_step i j k m e h = go (before (order k) (order i)) refl e
     where
-      go : (b : Bool) → before (order k) (order i) ≡ b → At (cond b k i) ≡ At m → NotBefore j m
+      go : (b : Bool) → before (order k) (order i) ≡ b → Some (cond b k i) ≡ Some m → NotBefore j m
       go true eb q = let z : k ≡ m = cc in λ w. h (before_trans (order j) (order k) (order i) (ap (λ (x : Spot). before (order j) (order x)) z ∙ w) eb)
       go false eb q = let z : i ≡ m = cc in λ w. h (ap (λ (x : Spot). before (order j) (order x)) z ∙ w)
 
-  first_new : (o : Found) (k m : Spot) → better order o k ≡ At m → NotBefore k m
+  first_new : (o : Option Spot) (k m : Spot) → better order o k ≡ Some m → NotBefore k m
   unfolding better
-  first_new Nothing k m e =
+  first_new None k m e =
       let z : k ≡ m = cc in
       λ w. not_both (ap (λ (x : Spot). before (order k) (order x)) z ∙ w) (before_never (order k))
-  first_new (At i) k m e = go (before (order k) (order i)) refl e
+  first_new (Some i) k m e = go (before (order k) (order i)) refl e
     where
-      go : (b : Bool) → before (order k) (order i) ≡ b → At (cond b k i) ≡ At m → NotBefore k m
+      go : (b : Bool) → before (order k) (order i) ≡ b → Some (cond b k i) ≡ Some m → NotBefore k m
       go true eb q = let z : k ≡ m = cc in λ w. not_both (ap (λ (x : Spot). before (order k) (order x)) z ∙ w) (before_never (order k))
       go false eb q = let z : i ≡ m = cc in λ w. not_both (ap (λ (x : Spot). before (order k) (order x)) z ∙ w) eb
 
-  first_on : (i : Spot) (l : List Spot) (j m : Spot) → best_of order (At i) l ≡ At m → NotBefore j i → NotBefore j m
+  first_on : (i : Spot) (l : List Spot) (j m : Spot) → best_of order (Some i) l ≡ Some m → NotBefore j i → NotBefore j m
   unfolding best_of better
   first_on i [] j m e h = let z : i ≡ m = cc in λ w. h (ap (λ (x : Spot). before (order j) (order x)) z ∙ w)
   first_on i (k ∷ ks) j m e h =
       let n = cond (before (order k) (order i)) k i in
       first_on n ks j m e (first_step i j k n refl h)
 
-  better-some : (o : Found) (k : Spot) → better order o k ≡ Nothing → ⊥
+  better-some : (o : Option Spot) (k : Spot) → better order o k ≡ None → ⊥
   unfolding better
-  better-some Nothing k z = let y : ◌≡◌ {A = ℕ} 0 1 = cc in omega arith
-  better-some (At i) k z = let y : ◌≡◌ {A = ℕ} 0 1 = cc in omega arith
+  better-some None k z = let y : ◌≡◌ {A = ℕ} 0 1 = cc in omega arith
+  better-some (Some i) k z = let y : ◌≡◌ {A = ℕ} 0 1 = cc in omega arith
 
-  pub best_first : (o : Found) (l : List Spot) (m : Spot) → best_of order o l ≡ At m → (j : Spot) → Memᴰ j l → before (order j) (order m) ≡ true → ⊥
+  pub best_first : (o : Option Spot) (l : List Spot) (m : Spot) → best_of order o l ≡ Some m → (j : Spot) → Memᴰ j l → before (order j) (order m) ≡ true → ⊥
   unfolding best_of
   best_first o [] m e j h = absurd (Memᴰ.not-nil h)
   best_first o (k ∷ ks) m e j (Memᴰ.tail h) = best_first (better order o k) ks m e j h
   best_first o (k ∷ ks) m e j (Memᴰ.head h) = go (better order o k) refl e
     where
-      go : (q : Found) → better order o k ≡ q → best_of order q ks ≡ At m → NotBefore j m
-      go Nothing eq f = absurd (better-some o k eq)
-      go (At i) eq f = λ w. first_on i ks k m f (first_new o k i eq) (ap (λ (x : Spot). before (order x) (order m)) (sym h) ∙ w)
+      go : (q : Option Spot) → better order o k ≡ q → best_of order q ks ≡ Some m → NotBefore j m
+      go None eq f = absurd (better-some o k eq)
+      go (Some i) eq f = λ w. first_on i ks k m f (first_new o k i eq) (ap (λ (x : Spot). before (order x) (order m)) (sym h) ∙ w)

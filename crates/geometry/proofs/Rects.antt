@@ -3,7 +3,7 @@ use Prim.Native.Nat.{ℕ, ◌+◌, ◌-◌, ◌*◌, ◌≤◌, ◌<◌}
 use mathlib.Core.Path.{◌≡◌, sym, ◌∙◌}
 use mathlib.Core.Bool.{true, false, ◌&&◌}
 use native.Mathlib.Omega.{arith}
-use native.Mathlib.Decide.{dec_lt, dec_le}
+use native.Mathlib.Decide.{dec_lt}
 use native.Mathlib.Nat.{mul-le-mul_left, mul-lt-mul_of_pos_right, lt_of_le_of_lt, le_of_lt}
 use lib.Dec.{leb, ltb}
 use borrow.Author.Tests.{lt-ltb, le-ltb, le-leb, lt-leb, leb-true, ltb-true}
@@ -25,21 +25,9 @@ module _ (a n x : ℕ) where
       go (no h) = le-ltb (x - a) n (omega arith) ∙ sym (and_no_right (leb a x) (ltb x (a + n)) (le-ltb x (a + n) (omega arith)))
 
 module _ (a n b m : ℕ) where
-  pub inside-before : b < a → false ≡ in_span a n b m
-  unfolding in_span
-  inside-before l = sym (and_no_left (leb a b) (leb (b + m) (a + n)) (lt-leb _ _ l))
-
   pub inside_past : a ≤ b → n < b - a → false ≡ in_span a n b m
   unfolding in_span
   inside_past l h = sym (and_no_right (leb a b) (leb (b + m) (a + n)) (lt-leb (b + m) (a + n) (omega arith)))
-
-  pub inside-from : a ≤ b → b - a ≤ n → leb m (n - (b - a)) ≡ in_span a n b m
-  unfolding in_span
-  inside-from l k = go (dec_le m (n - (b - a)))
-    where
-      go : Dec (m ≤ n - (b - a)) → leb m (n - (b - a)) ≡ (leb a b && leb (b + m) (a + n))
-      go (yes h) = le-leb _ _ h ∙ sym (both (le-leb _ _ l) (le-leb (b + m) (a + n) (omega arith)))
-      go (no h) = lt-leb m (n - (b - a)) (omega arith) ∙ sym (and_no_right (leb a b) (leb (b + m) (a + n)) (lt-leb (b + m) (a + n) (omega arith)))
 
 -- a product of two numbers of 32 bits fits 64
 pub product_fits : (a b : ℕ) → a < 4294967296 → b < 4294967296 → a * b < 18446744073709551616

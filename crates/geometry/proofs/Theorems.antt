@@ -1,5 +1,6 @@
 -- What holds of placing on one page, each under the sentence of document 01 that it carries. The crates above cite these.
 -- Assumes nothing.
+use Rattle.std.specs.Prelude.{Option, Some, None}
 use Prim.Native.Nat.{ℕ, ◌+◌, ◌≤◌}
 use native.Mathlib.Omega.{arith}
 use mathlib.Core.Path.{◌≡◌, refl, sym, ◌∙◌, ap, subst}
@@ -13,8 +14,6 @@ use Rattle.geometry.specs.Fits.{HasPixels, Fits, Picks, Apart, Within, Filled, e
 use Rattle.geometry.specs.declared.rect.Rect.{Rect}
 use Rattle.geometry.specs.declared.rect.Size.{Size}
 use Rattle.geometry.specs.declared.spot.Spot.{Spot}
-use Rattle.geometry.specs.declared.spot.Found.{Found}
-use Rattle.geometry.specs.declared.spot.Found.TheVariants.{Nothing, At}
 use Rattle.geometry.specs.declared.spot.Turn.{Turn}
 use Rattle.geometry.specs.declared.spot.Turn.TheVariants.{Upright, Turned}
 use Rattle.geometry.proofs.Ranks.{before_same, before_last, best_picks, best_first}
@@ -22,50 +21,50 @@ use Rattle.geometry.proofs.Fitting.{candidate_fits, fits_candidate, fits-inside,
 
 -- ## "Among fitting starts and allowed orientations: least bottom row; then narrower segment; then lower start; then upright."
 
-pub rank_picks : Picks (best_of rank Nothing)
+pub rank_picks : Picks (best_of rank None)
 rank_picks = best_picks rank
 
 module _ (f : ℕ → ℕ) (area : Size) (rotation : Bool) (cell : Size) where
   -- what is chosen fits
-  pub chosen_fits : (k : Spot) → spot_for f area rotation cell ≡ At k → Fits f area rotation cell k
+  pub chosen_fits : (k : Spot) → spot_for f area rotation cell ≡ Some k → Fits f area rotation cell k
   unfolding spot_for
   chosen_fits k e = candidate_fits f area rotation cell k (rank_picks.given _ k e)
 
   -- and nothing that fits ranks before it
-  pub chosen_first : (k : Spot) → spot_for f area rotation cell ≡ At k → (j : Spot) → Fits f area rotation cell j → before (rank j) (rank k) ≡ true → ⊥
+  pub chosen_first : (k : Spot) → spot_for f area rotation cell ≡ Some k → (j : Spot) → Fits f area rotation cell j → before (rank j) (rank k) ≡ true → ⊥
   unfolding spot_for
-  chosen_first k e j h = best_first rank Nothing (candidates f area rotation cell) k e j (fits_candidate f area rotation cell j h)
+  chosen_first k e j h = best_first rank None (candidates f area rotation cell) k e j (fits_candidate f area rotation cell j h)
 
   -- ## for any choice that picks a fitting candidate
 
-  module _ (pick : List Spot → Found) (p : Picks pick) where
-    pub picked_fits : (k : Spot) → pick (candidates f area rotation cell) ≡ At k → Fits f area rotation cell k
+  module _ (pick : List Spot → Option Spot) (p : Picks pick) where
+    pub picked_fits : (k : Spot) → pick (candidates f area rotation cell) ≡ Some k → Fits f area rotation cell k
     picked_fits k e = candidate_fits f area rotation cell k (p.given _ k e)
 
-    pub fits-picked : (k : Spot) → Fits f area rotation cell k → (j : Spot) × (pick (candidates f area rotation cell) ≡ At j)
+    pub fits-picked : (k : Spot) → Fits f area rotation cell k → (j : Spot) × (pick (candidates f area rotation cell) ≡ Some j)
     fits-picked k h = p.gives _ k (fits_candidate f area rotation cell k h)
 
     -- "At start s a cell w by h .. fits if it lies in the canvas": it is placed in the area
-    pub picked-inside : (k : Spot) → pick (candidates f area rotation cell) ≡ At k → Within area k.at
+    pub picked-inside : (k : Spot) → pick (candidates f area rotation cell) ≡ Some k → Within area k.at
     picked-inside k e = fits-inside f area rotation cell k (picked_fits k e)
 
     -- a smaller cell has a spot wherever a larger one has
-    pub smaller_picked : (small : Size) → NoLarger small cell → (k : Spot) → pick (candidates f area rotation cell) ≡ At k
-        → (j : Spot) × (pick (candidates f area rotation small) ≡ At j)
+    pub smaller_picked : (small : Size) → NoLarger small cell → (k : Spot) → pick (candidates f area rotation cell) ≡ Some k
+        → (j : Spot) × (pick (candidates f area rotation small) ≡ Some j)
     smaller_picked small le k e =
         p.gives _ _ (fits_candidate f area rotation small _ (fits_smaller f area rotation small cell le k (picked_fits k e)))
 
 -- ## "8 trimmed cell fits an empty canvas in no allowed orientation", for any choice that picks a fitting candidate
 
-module _ (area : Size) (rotation : Bool) (cell : Size) (some : HasPixels cell) (pick : List Spot → Found) (p : Picks pick) where
-  pub empty_takes : SidesFit area rotation cell → (k : Spot) × (pick (candidates (height []) area rotation cell) ≡ At k)
+module _ (area : Size) (rotation : Bool) (cell : Size) (some : HasPixels cell) (pick : List Spot → Option Spot) (p : Picks pick) where
+  pub empty_takes : SidesFit area rotation cell → (k : Spot) × (pick (candidates (height []) area rotation cell) ≡ Some k)
   empty_takes s = let h = sides_fit area rotation cell some s in fits-picked (height []) area rotation cell pick p h.0 h.1
 
-  pub takes_only : (k : Spot) → pick (candidates (height []) area rotation cell) ≡ At k → SidesFit area rotation cell
+  pub takes_only : (k : Spot) → pick (candidates (height []) area rotation cell) ≡ Some k → SidesFit area rotation cell
   takes_only k e = fit_sides (height []) area rotation cell k (picked_fits (height []) area rotation cell pick p k e)
 
 -- no page takes a cell that an empty one does not
-pub placed-sides : (f : ℕ → ℕ) (area : Size) (rotation : Bool) (cell : Size) (k : Spot) → spot_for f area rotation cell ≡ At k → SidesFit area rotation cell
+pub placed-sides : (f : ℕ → ℕ) (area : Size) (rotation : Bool) (cell : Size) (k : Spot) → spot_for f area rotation cell ≡ Some k → SidesFit area rotation cell
 placed-sides f area rotation cell k e = fit_sides f area rotation cell k (chosen_fits f area rotation cell k e)
 
 -- ## "all cells in the canvas, no two on one page sharing a pixel", for any choice that picks a fitting candidate
@@ -97,13 +96,13 @@ module _ (area : Size) (rotation : Bool) where
   unfolding grown
   rule_fills {cells} before cell some = go (spot_for (height cells) area rotation cell) refl
     where
-      go : (o : Found) → spot_for (height cells) area rotation cell ≡ o → Filled area rotation (grown cells o)
-      go Nothing e = before
-      go (At k) e = put cell before some (chosen_fits (height cells) area rotation cell k e)
+      go : (o : Option Spot) → spot_for (height cells) area rotation cell ≡ o → Filled area rotation (grown cells o)
+      go None e = before
+      go (Some k) e = put cell before some (chosen_fits (height cells) area rotation cell k e)
 
 -- ## "Turned is reported only if the placed width differs from the cell's own."
 
-module _ (f : ℕ → ℕ) (area : Size) (rotation : Bool) (cell : Size) (k : Spot) (chosen : spot_for f area rotation cell ≡ At k) where
+module _ (f : ℕ → ℕ) (area : Size) (rotation : Bool) (cell : Size) (k : Spot) (chosen : spot_for f area rotation cell ≡ Some k) where
   turn_is : k.turn ≡ (chosen_fits f area rotation cell k chosen).turn
   unfolding spot_at cell_at
   turn_is = ap (λ (j : Spot). j.turn) (chosen_fits f area rotation cell k chosen).is

@@ -1,14 +1,12 @@
 -- What fits, any choice among what fits, and cells that share no pixel.
 -- Assumes nothing.
-use Rattle.std.specs.Prelude.{ℕ, ◌+◌, ◌≤◌, ◌<◌, ◌≡◌, Bool, true, ◌⊎◌}
+use Rattle.std.specs.Prelude.{ℕ, ◌+◌, ◌≤◌, ◌<◌, ◌≡◌, Bool, true, ◌⊎◌, Option, Some}
 use mathlib.Core.List.{List, [], ◌∷◌, ◌++◌, Memᴰ}
 use Rattle.geometry.specs.Rects.{holds_point}
 use Rattle.geometry.specs.Placing.{height, is_start, top, lying, spot_at, orientations}
 use Rattle.geometry.specs.declared.rect.Rect.{Rect}
 use Rattle.geometry.specs.declared.rect.Size.{Size}
 use Rattle.geometry.specs.declared.spot.Spot.{Spot}
-use Rattle.geometry.specs.declared.spot.Found.{Found}
-use Rattle.geometry.specs.declared.spot.Found.TheVariants.{At}
 use Rattle.geometry.specs.declared.spot.Turn.{Turn}
 
 -- a cell has at least one pixel
@@ -28,9 +26,9 @@ pub record Fits (heights : ℕ → ℕ) (area : Size) (rotation : Bool) (cell : 
   pub down : top heights start (lying turn cell).w + (lying turn cell).h ≤ area.h
 
 -- a choice that picks one of what it is given, wherever it is given one
-pub record Picks (pick : List Spot → Found) : Type 0 where
-  pub given : (l : List Spot) (k : Spot) → pick l ≡ At k → Memᴰ k l
-  pub gives : (l : List Spot) (k : Spot) → Memᴰ k l → (j : Spot) × (pick l ≡ At j)
+pub record Picks (pick : List Spot → Option Spot) : Type 0 where
+  pub given : (l : List Spot) (k : Spot) → pick l ≡ Some k → Memᴰ k l
+  pub gives : (l : List Spot) (k : Spot) → Memᴰ k l → (j : Spot) × (pick l ≡ Some j)
 
 -- no pixel lies in both
 abbrev pub Apart : Rect → Rect → Type 0

@@ -1,14 +1,12 @@
 -- Placing on one page: the height of a column, starts, segments, the place at a start, what fits, the choice.
 -- An area is W columns by H rows; heights give each column of a page its height.
 -- Assumes nothing.
-use Rattle.std.specs.Prelude.{ℕ, ◌+◌, ◌-◌, Bool, true, false, cond, not, ◌&&◌, ◌||◌, List, [], ◌∷◌, ◌++◌, map, leb, eqb}
+use Rattle.std.specs.Prelude.{ℕ, ◌+◌, ◌-◌, Bool, true, false, cond, not, ◌&&◌, ◌||◌, List, [], ◌∷◌, ◌++◌, map, leb, eqb, Option, Some, None}
 use Rattle.geometry.specs.Words.{from, only, earliest, or_else, greatest, flat, before}
 use Rattle.geometry.specs.Rects.{on_span, bottom_of}
 use Rattle.geometry.specs.declared.rect.Rect.{Rect}
 use Rattle.geometry.specs.declared.rect.Size.{Size}
 use Rattle.geometry.specs.declared.spot.Spot.{Spot}
-use Rattle.geometry.specs.declared.spot.Found.{Found}
-use Rattle.geometry.specs.declared.spot.Found.TheVariants.{Nothing, At}
 use Rattle.geometry.specs.declared.spot.Turn.{Turn}
 use Rattle.geometry.specs.declared.spot.Turn.TheVariants.{Upright, Turned}
 
@@ -87,30 +85,30 @@ rank k = k.bottom ∷ k.segment ∷ k.at.x ∷ turn_number k.turn ∷ []
 
 module _ (order : Spot → List ℕ) where
   -- the better of the best so far and the next
-  unfoldable pub better : Found → Spot → Found
-  better Nothing k = At k
-  better (At j) k = At (cond (before (order k) (order j)) k j)
+  unfoldable pub better : Option Spot → Spot → Option Spot
+  better None k = Some k
+  better (Some j) k = Some (cond (before (order k) (order j)) k j)
 
   -- the best of some, after the best so far
-  unfoldable pub best_of : Found → List Spot → Found
+  unfoldable pub best_of : Option Spot → List Spot → Option Spot
   best_of o [] = o
   best_of o (k ∷ ks) = best_of (better o k) ks
 
 -- THE CHOICE: where a page with these heights puts a cell, if it fits
-unfoldable pub spot_for : (ℕ → ℕ) → Size → Bool → Size → Found
-spot_for heights area rotation cell = best_of rank Nothing (candidates heights area rotation cell)
+unfoldable pub spot_for : (ℕ → ℕ) → Size → Bool → Size → Option Spot
+spot_for heights area rotation cell = best_of rank None (candidates heights area rotation cell)
 
-abbrev pub is_found : Found → Bool
-is_found Nothing = false
-is_found (At k) = true
+abbrev pub is_found : Option Spot → Bool
+is_found None = false
+is_found (Some k) = true
 
 -- a page's cells after an answer, in order of acceptance
-unfoldable pub grown : List Rect → Found → List Rect
-grown cells Nothing = cells
-grown cells (At k) = cells ++ k.at ∷ []
+unfoldable pub grown : List Rect → Option Spot → List Rect
+grown cells None = cells
+grown cells (Some k) = cells ++ k.at ∷ []
 
 -- cells placed one after the other on one page, and what each answered
-unfoldable pub packed : Size → Bool → List Rect → List Size → List Found
+unfoldable pub packed : Size → Bool → List Rect → List Size → List (Option Spot)
 packed area rotation cells [] = []
 packed area rotation cells (s ∷ ss) =
     spot_for (height cells) area rotation s

@@ -1,12 +1,11 @@
 -- The computed table of placing on one page: cells placed one after the other, and where each goes. The area is the canvas, a row
 -- less than document 01's maxima. Assumes nothing.
-use Rattle.std.specs.Prelude.{ℕ, Bool, true, false, not, List, [], ◌∷◌, map}
+use Rattle.std.specs.Prelude.{ℕ, Bool, true, false, not, List, [], ◌∷◌, map, Option, Some, None}
 use Rattle.geometry.specs.Placing.{packed, turn_number}
 use Rattle.geometry.specs.Rects.{holds_point, holds_rect, on_outline}
 use Rattle.geometry.specs.declared.rect.Rect.{Rect}
 use Rattle.geometry.specs.declared.rect.Size.{Size}
-use Rattle.geometry.specs.declared.spot.Found.{Found}
-use Rattle.geometry.specs.declared.spot.Found.TheVariants.{Nothing, At}
+use Rattle.geometry.specs.declared.spot.Spot.{Spot}
 
 pub record Line : Type 0 where
   pub area : Size
@@ -28,9 +27,9 @@ at x y w h t = x ∷ y ∷ w ∷ h ∷ t ∷ []
 abbrev nowhere : List ℕ
 nowhere = []
 
-unfoldable pub place_of : Found → List ℕ
-place_of Nothing = nowhere
-place_of (At k) = at k.at.x k.at.y k.at.w k.at.h (turn_number k.turn)
+unfoldable pub place_of : Option Spot → List ℕ
+place_of None = nowhere
+place_of (Some k) = at k.at.x k.at.y k.at.w k.at.h (turn_number k.turn)
 
 unfoldable pub computed : Line → List (List ℕ)
 computed l = map place_of (packed l.area l.rotation [] l.cells)

@@ -3,13 +3,13 @@
 ghost use Rattle.std.specs.Prelude.{◌≡◌, ◌+◌, ◌-◌, ◌*◌};
 ghost use Rattle.geometry.specs.Rects.{on_span, in_span, at_end, right_of, bottom_of, holds_point, holds_rect, on_outline, Spanned};
 
-#[derive(Clone, Copy)]
+#[derive(Clone, Copy, PartialEq, Eq)]
 pub struct Size {
     pub w: u32,
     pub h: u32,
 }
 
-#[derive(Clone, Copy)]
+#[derive(Clone, Copy, PartialEq, Eq)]
 pub struct Rect {
     pub x: u32,
     pub y: u32,
@@ -17,45 +17,32 @@ pub struct Rect {
     pub h: u32,
 }
 
-fn wide(n: u32) -> u64
-    ensures { result ≡ n }
-{
-    n as u64
-}
-
 // The last of the n numbers from a on.
 fn last(a: u32, n: u32) -> u64
     ensures { result ≡ a + n - 1 }
 {
-    let end = wide(a) + wide(n);
-    if end == 0 { 0 } else { end - 1 }
+    (u64::from(a) + u64::from(n)).saturating_sub(1)
 }
 
+#[tactic(auto, unfolding(crate::specs::Rects::on_span))]
 fn on_span(a: u32, n: u32, x: u32) -> bool
     ensures { result ≡ on_span a n x }
 {
-    if x < a {
-        return false;
-    }
-    x - a < n
+    a <= x && x - a < n
 }
 
+#[tactic(auto, unfolding(crate::specs::Rects::in_span))]
 fn in_span(a: u32, n: u32, b: u32, m: u32) -> bool
     ensures { result ≡ in_span a n b m }
 {
-    if b < a {
-        return false;
-    }
-    if n < b - a {
-        return false;
-    }
-    m <= n - (b - a)
+    a <= b && b - a <= n && m <= n - (b - a)
 }
 
+#[tactic(auto, unfolding(crate::specs::Rects::at_end))]
 fn at_end(a: u32, n: u32, x: u32) -> bool
     ensures { result ≡ at_end a n x }
 {
-    (x == a) | (wide(x) == last(a, n))
+    x == a || u64::from(x) == last(a, n)
 }
 
 impl Rect {
@@ -105,25 +92,28 @@ impl Rect {
     pub fn area(self) -> u64
         ensures { result ≡ self.w * self.h }
     {
-        wide(self.w) * wide(self.h)
+        u64::from(self.w) * u64::from(self.h)
     }
 
+    #[tactic(auto, unfolding(crate::specs::Rects::holds_rect))]
     pub fn contains(self, other: Rect) -> bool
         ensures { result ≡ holds_rect self other }
     {
-        in_span(self.x, self.w, other.x, other.w) & in_span(self.y, self.h, other.y, other.h)
+        in_span(self.x, self.w, other.x, other.w) && in_span(self.y, self.h, other.y, other.h)
     }
 
+    #[tactic(auto, unfolding(crate::specs::Rects::holds_point))]
     pub fn contains_point(self, x: u32, y: u32) -> bool
         ensures { result ≡ holds_point self x y }
     {
-        on_span(self.x, self.w, x) & on_span(self.y, self.h, y)
+        on_span(self.x, self.w, x) && on_span(self.y, self.h, y)
     }
 
     // Whether a point lies in the left or right column, or in the top or bottom row.
+    #[tactic(auto, unfolding(crate::specs::Rects::on_outline))]
     pub fn is_outline(self, x: u32, y: u32) -> bool
         ensures { result ≡ on_outline self x y }
     {
-        at_end(self.x, self.w, x) | at_end(self.y, self.h, y)
+        at_end(self.x, self.w, x) || at_end(self.y, self.h, y)
     }
 }

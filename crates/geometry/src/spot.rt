@@ -1,19 +1,30 @@
 // Where a cell goes, and which of two places is better.
 ghost use Rattle.std.specs.Prelude.{◌≡◌};
 ghost use Rattle.geometry.specs.Words.{before};
-ghost use Rattle.geometry.specs.Placing.{turn_number, rank, lying, is_found};
+ghost use Rattle.geometry.specs.Placing.{turn_number, rank, lying};
 ghost use Rattle.geometry.specs.Choice.{choice, lowest};
 
 use crate::rect::{Rect, Size};
 
-#[derive(Clone, Copy)]
+#[derive(Clone, Copy, PartialEq, Eq, PartialOrd, Ord)]
 pub enum Turn {
     Upright,
     Turned,
 }
 
+impl From<Turn> for u32 {
+    ghost from_gives = { λ t n. n ≡ turn_number t };
+
+    fn from(t: Turn) -> u32 {
+        match t {
+            Turn::Upright => 0,
+            Turn::Turned => 1,
+        }
+    }
+}
+
 // Where a cell goes: its rectangle, its bottom row, the width of the segment that it starts at, and how it lies.
-#[derive(Clone, Copy)]
+#[derive(Clone, Copy, PartialEq, Eq)]
 pub struct Spot {
     pub at: Rect,
     pub bottom: u32,
@@ -21,22 +32,8 @@ pub struct Spot {
     pub turn: Turn,
 }
 
-#[derive(Clone, Copy)]
-pub enum Found {
-    Nothing,
-    At(Spot),
-}
-
-pub fn turn_number(t: Turn) -> u32
-    ensures { result ≡ turn_number t }
-{
-    match t {
-        Turn::Upright => 0,
-        Turn::Turned => 1,
-    }
-}
-
 // A size as it lies.
+#[tactic(auto, unfolding(crate::specs::Placing::lying))]
 pub fn lying_size(t: Turn, s: Size) -> Size
     ensures { result ≡ lying t s }
 {
@@ -46,51 +43,28 @@ pub fn lying_size(t: Turn, s: Size) -> Size
     }
 }
 
-pub fn is_found(f: Found) -> bool
-    ensures { result ≡ is_found f }
-{
-    match f {
-        Found::Nothing => false,
-        Found::At(_) => true,
-    }
-}
-
+#[tactic(auto, unfolding(crate::specs::Placing::rank, crate::specs::Words::before))]
 fn ranks_before(a: Spot, b: Spot) -> bool
     ensures { result ≡ before (rank a) (rank b) }
 {
-    if a.bottom != b.bottom {
-        return a.bottom < b.bottom;
-    }
-    if a.segment != b.segment {
-        return a.segment < b.segment;
-    }
-    if a.at.x != b.at.x {
-        return a.at.x < b.at.x;
-    }
-    let t = a.turn;
-    let u = b.turn;
-    turn_number(t) < turn_number(u)
+    (a.bottom, a.segment, a.at.x, a.turn) < (b.bottom, b.segment, b.at.x, b.turn)
 }
 
 // The better of two answers, the earlier first.
-pub fn choose(a: Found, b: Found) -> Found
+#[tactic(auto, unfolding(crate::specs::Choice::choice, crate::specs::Placing::better))]
+pub fn choose(a: Option<Spot>, b: Option<Spot>) -> Option<Spot>
     ensures { result ≡ choice a b }
 {
-    match b {
-        Found::Nothing => a,
-        Found::At(k) => match a {
-            Found::Nothing => b,
-            Found::At(j) => { if ranks_before(k, j) { b } else { a } }
-        },
+    match (a, b) {
+        (Some(j), Some(k)) => { if ranks_before(k, j) { b } else { a } }
+        _ => a.or(b),
     }
 }
 
 // How many rows of an area h high are left to a cell that is to rank before what was found.
-pub fn lowest_end(h: u32, found: Found) -> u32
+#[tactic(auto, unfolding(crate::specs::Choice::lowest))]
+pub fn lowest_end(h: u32, found: Option<Spot>) -> u32
     ensures { result ≡ lowest h found }
 {
-    match found {
-        Found::Nothing => h,
-        Found::At(k) => { if k.bottom < h { k.bottom + 1 } else { h } }
-    }
+    found.map_or(h, |k| h.min(k.bottom.saturating_add(1)))
 }

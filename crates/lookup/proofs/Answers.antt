@@ -7,6 +7,7 @@ use mathlib.Core.List.{[], ◌∷◌}
 use mathlib.Core.Logic.{◌↔◌}
 use mathlib.Core.Option.{Option, none, some}
 use lib.Dec.{leb}
+use Rattle.std.specs.Prelude.{⊤, Option as Maybe, Some, None, Result, Ok, Err}
 use borrow.Author.Tests.{le-leb, lt-leb, leb-false, not-false}
 use Rattle.geometry.specs.Words.{any}
 use Rattle.art.specs.Stores.{Stores, runs_past}
@@ -27,10 +28,6 @@ use Rattle.rules.proofs.Rows.{test_at, refusal_at, Passed, Once, exactly_at, non
 use Rattle.lookup.specs.Zones.{pixel_at}
 use Rattle.lookup.specs.Looking.{page_past, look_row, look_refusal, look_answer, looked, looked_numbers}
 use Rattle.lookup.specs.Reading.{read_row, read_refusal, read_answer, read, read_numbers}
-use Rattle.lookup.specs.declared.image_row.Read.{Read}
-use Rattle.lookup.specs.declared.image_row.Read.TheVariants.{Done, Refused as RowRefused}
-use Rattle.lookup.specs.declared.texture_packer.Looked.{Looked}
-use Rattle.lookup.specs.declared.texture_packer.Looked.TheVariants.{Shows, NoPixel, Refused}
 
 -- ## pixel
 
@@ -62,11 +59,11 @@ module _ (l : Layout) (s : Stores) (p : Page) where
   look_row_lem = refl
 
   module _ (x y : ℕ) where
-    pub looked-refused : {r : Refusal} → look_refusal l s p ≡ some r → Refused r ≡ looked l s p x y
+    pub looked-refused : {r : Refusal} → look_refusal l s p ≡ some r → Err r ≡ looked l s p x y
     unfolding looked
     looked-refused {r} e = refuses (pixel_at l s p x y) ∙ sym (ap (look_answer (pixel_at l s p x y)) e)
       where
-        refuses : (o : Option Pixel) → Refused r ≡ look_answer o (some r)
+        refuses : (o : Option Pixel) → Err r ≡ look_answer o (some r)
         refuses none = refl
         refuses (some k) = refl
 
@@ -74,11 +71,11 @@ module _ (l : Layout) (s : Stores) (p : Page) where
     unfolding looked
     looked-found e = sym (ap (look_answer (pixel_at l s p x y)) e)
 
-    pub refused-looked : (r : Refusal) → looked l s p x y ≡ Refused r → look_refusal l s p ≡ some r
+    pub refused-looked : (r : Refusal) → looked l s p x y ≡ Err r → look_refusal l s p ≡ some r
     unfolding looked
     refused-looked r e = go (pixel_at l s p x y) (look_refusal l s p) e
       where
-        go : (k : Option Pixel) (o : Option Refusal) → look_answer k o ≡ Refused r → o ≡ some r
+        go : (k : Option Pixel) (o : Option Refusal) → look_answer k o ≡ Err r → o ≡ some r
         go none none q = let z : ◌≡◌ {A = ℕ} 0 1 = cc in absurd (omega arith)
         go (some k) none q = let z : ◌≡◌ {A = ℕ} 0 1 = cc in absurd (omega arith)
         go none (some n) q = let z : n ≡ r = cc in ap some z
@@ -86,28 +83,28 @@ module _ (l : Layout) (s : Stores) (p : Page) where
 
     -- place n of the row
     pub look_at : (n : ℕ) → n < 3 → Once n (look_row l s p)
-        → looked l s p x y ≡ Refused (refusal_at n (look_row l s p)) ↔ (Passed n (look_row l s p) × (test_at n (look_row l s p) ≡ true))
+        → looked l s p x y ≡ Err (refusal_at n (look_row l s p)) ↔ (Passed n (look_row l s p) × (test_at n (look_row l s p) ≡ true))
     look_at n h o =
         let e = exactly_at (look_row l s p) n h o in
         let r = refusal_at n (look_row l s p) in
         (λ q. e.0 (sym look_row_lem ∙ refused-looked r q), λ t. sym (looked-refused (look_row_lem ∙ e.1 t)))
 
     -- what is shown where no check holds
-    pub found-looked : (k : Pixel) → looked l s p x y ≡ Shows k → (look_refusal l s p ≡ none) × (pixel_at l s p x y ≡ some k)
+    pub found-looked : (k : Pixel) → looked l s p x y ≡ Ok (Some k) → (look_refusal l s p ≡ none) × (pixel_at l s p x y ≡ some k)
     unfolding looked
     found-looked k e = go (pixel_at l s p x y) (look_refusal l s p) e
       where
-        go : (q : Option Pixel) (o : Option Refusal) → look_answer q o ≡ Shows k → (o ≡ none) × (q ≡ some k)
+        go : (q : Option Pixel) (o : Option Refusal) → look_answer q o ≡ Ok (Some k) → (o ≡ none) × (q ≡ some k)
         go none none f = let z : ◌≡◌ {A = ℕ} 0 1 = cc in absurd (omega arith)
         go (some q) none f = let z : q ≡ k = cc in (refl, ap some z)
         go none (some n) f = let z : ◌≡◌ {A = ℕ} 0 1 = cc in absurd (omega arith)
         go (some q) (some n) f = let z : ◌≡◌ {A = ℕ} 0 1 = cc in absurd (omega arith)
 
-    pub none-looked : looked l s p x y ≡ NoPixel → (look_refusal l s p ≡ none) × (pixel_at l s p x y ≡ none)
+    pub none-looked : looked l s p x y ≡ Ok None → (look_refusal l s p ≡ none) × (pixel_at l s p x y ≡ none)
     unfolding looked
     none-looked e = go (pixel_at l s p x y) (look_refusal l s p) e
       where
-        go : (q : Option Pixel) (o : Option Refusal) → look_answer q o ≡ NoPixel → (o ≡ none) × (q ≡ none)
+        go : (q : Option Pixel) (o : Option Refusal) → look_answer q o ≡ Ok None → (o ≡ none) × (q ≡ none)
         go none none f = (refl, refl)
         go (some q) none f = let z : ◌≡◌ {A = ℕ} 0 1 = cc in absurd (omega arith)
         go none (some n) f = let z : ◌≡◌ {A = ℕ} 0 1 = cc in absurd (omega arith)
@@ -142,28 +139,28 @@ module _ (l : Layout) (s : Stores) (k : Key) (y : ℕ) where
     pub read-passes : y < r.source.h → runs_past s (image_of r) ≡ false → read_refusal l s k y ≡ none
     read-passes h e = passed_two ∙ skipped _ BadRows _ (lt-leb r.source.h y h) ∙ skipped _ PastStore [] e ∙ none_left
 
-  pub read-refused : {r : Refusal} → read_refusal l s k y ≡ some r → RowRefused r ≡ read l s k y
+  pub read-refused : {r : Refusal} → read_refusal l s k y ≡ some r → Err r ≡ read l s k y
   unfolding read
   read-refused e = sym (ap read_answer e)
 
-  pub read_done : read_refusal l s k y ≡ none → Done ≡ read l s k y
+  pub read_done : read_refusal l s k y ≡ none → Ok tt ≡ read l s k y
   unfolding read
   read_done e = sym (ap read_answer e)
 
   -- and back: what the answer says of the row
-  pub refused-read : (r : Refusal) → read l s k y ≡ RowRefused r → read_refusal l s k y ≡ some r
+  pub refused-read : (r : Refusal) → read l s k y ≡ Err r → read_refusal l s k y ≡ some r
   unfolding read
   refused-read r e = go (read_refusal l s k y) e
     where
-      go : (o : Option Refusal) → read_answer o ≡ RowRefused r → o ≡ some r
+      go : (o : Option Refusal) → read_answer o ≡ Err r → o ≡ some r
       go none q = let z : ◌≡◌ {A = ℕ} 0 1 = cc in absurd (omega arith)
       go (some n) q = let z : n ≡ r = cc in ap some z
 
-  pub done-read : read l s k y ≡ Done → read_refusal l s k y ≡ none
+  pub done-read : read l s k y ≡ Ok tt → read_refusal l s k y ≡ none
   unfolding read
   done-read e = go (read_refusal l s k y) e
     where
-      go : (o : Option Refusal) → read_answer o ≡ Done → o ≡ none
+      go : (o : Option Refusal) → read_answer o ≡ Ok tt → o ≡ none
       go none q = refl
       go (some n) q = let z : ◌≡◌ {A = ℕ} 0 1 = cc in absurd (omega arith)
 
@@ -172,7 +169,7 @@ module _ (l : Layout) (s : Stores) (k : Key) (y : ℕ) where
   read-row = refl
 
   pub read_at : (n : ℕ) → n < 4 → Once n (read_row l s k y)
-      → read l s k y ≡ RowRefused (refusal_at n (read_row l s k y)) ↔ (Passed n (read_row l s k y) × (test_at n (read_row l s k y) ≡ true))
+      → read l s k y ≡ Err (refusal_at n (read_row l s k y)) ↔ (Passed n (read_row l s k y) × (test_at n (read_row l s k y) ≡ true))
   read_at n h o =
       let e = exactly_at (read_row l s k y) n h o in
       let r = refusal_at n (read_row l s k y) in
@@ -193,24 +190,24 @@ module _ (l : Layout) (s : Stores) (k : Key) (y : ℕ) where
 
 -- ## the numbers and values of an answer tell it
 
-pub looked_tells : (a b : Looked) → looked_numbers a ≡ looked_numbers b → a ≡ b
-looked_tells NoPixel NoPixel e = refl
-looked_tells NoPixel (Shows k) e = let z : ◌≡◌ {A = ℕ} 0 1 = cc in absurd (omega arith)
-looked_tells NoPixel (Refused r) e = let z : 0 ≡ number_of r = cc in absurd (number-some r (sym z))
-looked_tells (Shows k) NoPixel e = let z : ◌≡◌ {A = ℕ} 1 0 = cc in absurd (omega arith)
-looked_tells (Shows k) (Shows j) e =
+pub looked_tells : (a b : Result (Maybe Pixel) Refusal) → looked_numbers a ≡ looked_numbers b → a ≡ b
+looked_tells (Ok None) (Ok None) e = refl
+looked_tells (Ok None) (Ok (Some k)) e = let z : ◌≡◌ {A = ℕ} 0 1 = cc in absurd (omega arith)
+looked_tells (Ok None) (Err r) e = let z : 0 ≡ number_of r = cc in absurd (number-some r (sym z))
+looked_tells (Ok (Some k)) (Ok None) e = let z : ◌≡◌ {A = ℕ} 1 0 = cc in absurd (omega arith)
+looked_tells (Ok (Some k)) (Ok (Some j)) e =
     let r : k.r ≡ j.r = cc in
     let g : k.g ≡ j.g = cc in
     let b : k.b ≡ j.b = cc in
     let a : k.a ≡ j.a = cc in
-    λ i. Shows (record { r = r i; g = g i; b = b i; a = a i })
-looked_tells (Shows k) (Refused r) e = let z : 0 ≡ number_of r = cc in absurd (number-some r (sym z))
-looked_tells (Refused r) NoPixel e = let z : number_of r ≡ 0 = cc in absurd (number-some r z)
-looked_tells (Refused r) (Shows k) e = let z : number_of r ≡ 0 = cc in absurd (number-some r z)
-looked_tells (Refused r) (Refused q) e = let z : number_of r ≡ number_of q = cc in ap Refused (number_tells r q z)
+    λ i. Ok (Some (record { r = r i; g = g i; b = b i; a = a i }))
+looked_tells (Ok (Some k)) (Err r) e = let z : 0 ≡ number_of r = cc in absurd (number-some r (sym z))
+looked_tells (Err r) (Ok None) e = let z : number_of r ≡ 0 = cc in absurd (number-some r z)
+looked_tells (Err r) (Ok (Some k)) e = let z : number_of r ≡ 0 = cc in absurd (number-some r z)
+looked_tells (Err r) (Err q) e = let z : number_of r ≡ number_of q = cc in ap Err (number_tells r q z)
 
-pub read_tells : (a b : Read) → read_numbers a ≡ read_numbers b → a ≡ b
-read_tells Done Done e = refl
-read_tells Done (RowRefused r) e = let z : 0 ≡ number_of r = cc in absurd (number-some r (sym z))
-read_tells (RowRefused r) Done e = let z : number_of r ≡ 0 = cc in absurd (number-some r z)
-read_tells (RowRefused r) (RowRefused q) e = let z : number_of r ≡ number_of q = cc in ap RowRefused (number_tells r q z)
+pub read_tells : (a b : Result ⊤ Refusal) → read_numbers a ≡ read_numbers b → a ≡ b
+read_tells (Ok a) (Ok b) e = refl
+read_tells (Ok done) (Err r) e = let z : 0 ≡ number_of r = cc in absurd (number-some r (sym z))
+read_tells (Err r) (Ok done) e = let z : number_of r ≡ 0 = cc in absurd (number-some r z)
+read_tells (Err r) (Err q) e = let z : number_of r ≡ number_of q = cc in ap Err (number_tells r q z)

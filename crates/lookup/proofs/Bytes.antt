@@ -9,6 +9,7 @@ use lib.Seq.{length-take-le, get_or-take, get_or-drop}
 use denote.Ref.{Bor}
 use Rattle.art.specs.Stores.{Stores, lent, of_store, bytes_of, runs_past, place_of, pixel_from, pixel_in}
 use Rattle.art.specs.declared.memory_rgba8_texture.Store.{Store}
+use Rattle.art.specs.declared.memory_rgba8_texture.Stores.{Stores as LentStores}
 use Rattle.art.specs.declared.memory_rgba8_texture.Store.TheVariants.{Symbols, Wording}
 use Rattle.art.proofs.Places.{row_in, in_store}
 use Rattle.records.specs.Records.{image_of}
@@ -16,11 +17,11 @@ use Rattle.records.specs.declared.frame.Record.{Record}
 use Rattle.lookup.specs.Reading.{Part, row_part, empty_part, part_bytes, IsPart}
 
 -- what a reference to a part reads
-pub part_reads : (symbols wording : Bor (List ℕ)) (k : Part) (r : Bor (List ℕ)) → IsPart symbols wording k r → r.now ≡ part_bytes (lent symbols.now wording.now) k
+pub part_reads : (stores : LentStores) (k : Part) (r : Bor (List ℕ)) → IsPart stores k r → r.now ≡ part_bytes (lent stores) k
 unfolding part_bytes bytes_of
-part_reads symbols wording k r p = p.bytes ∙ ap (λ (l : List ℕ). take k.size (drop k.start l)) (swap k.store)
+part_reads stores k r p = p.bytes ∙ ap (λ (l : List ℕ). take k.size (drop k.start l)) (swap k.store)
   where
-    swap : (q : Store) → (of_store q symbols wording).now ≡ of_store q symbols.now wording.now
+    swap : (q : Store) → (of_store q stores.symbols stores.wording).now ≡ of_store q stores.symbols.now stores.wording.now
     swap Symbols = refl
     swap Wording = refl
 

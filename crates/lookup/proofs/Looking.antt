@@ -1,9 +1,9 @@
 -- 5: whether any image on a page runs past its store, over what is left of a list; and that each lies in it where none does. Assumes nothing.
-use Prim.Native.Nat.{ℕ, ◌+◌, ◌≤◌, ◌<◌}
 use mathlib.Core.Path.{◌≡◌, refl, sym, ap, ◌∙◌}
 use mathlib.Core.Bool.{Bool, true, false, cond, ◌&&◌, ◌||◌}
 use mathlib.Core.List.{List, [], ◌∷◌, Memᴰ}
-use lib.ListN.{length, get_or, drop, drop_of_length-le}
+use Rattle.std.specs.List.{list_any}
+use Rattle.std.proofs.lemmas.List.Recursion.{same_from_clauses}
 use lib.Dec.{eqb}
 use Rattle.geometry.specs.Words.{any, only}
 use Rattle.geometry.proofs.Words.{not_both, or_no_left, or_no_right}
@@ -12,7 +12,6 @@ use Rattle.records.specs.Records.{image_of}
 use Rattle.records.specs.Layouts.{on_page}
 use Rattle.records.specs.declared.frame.Page.{Page}
 use Rattle.records.specs.declared.frame.Record.{Record}
-use Rattle.records.proofs.Standing.{rest_next}
 use Rattle.lookup.specs.Looking.{page_past}
 
 and_second : (a b : Bool) → (a && b) ≡ false → a ≡ true → b ≡ false
@@ -36,22 +35,9 @@ module _ (s : Stores) (p : Page) where
   unfolding page_past on_page only any
   past_none = refl
 
-  -- what is left of a list from index i on: one of them runs past, this one does not, none is left
-  module _ (l : List Record) (d : Record) (i : ℕ) where
-    past_step : (b : Bool) → i < length l → b ≡ past_here (get_or l i d) → page_past s p (drop i l) ≡ (b || page_past s p (drop (i + 1) l))
-    past_step b h e =
-        ap (page_past s p) (rest_next (λ (r : Record). true) l d i h)
-        ∙ past_cons (get_or l i d) (drop (i + 1) l)
-        ∙ ap (λ (z : Bool). z || page_past s p (drop (i + 1) l)) (sym e)
-
-    pub past_stop : (b : Bool) → i < length l → b ≡ past_here (get_or l i d) → b ≡ true → page_past s p (drop i l) ≡ true
-    past_stop b h e t = past_step true h (sym t ∙ e)
-
-    pub past_more : (b : Bool) → i < length l → b ≡ past_here (get_or l i d) → b ≡ false → page_past s p (drop (i + 1) l) ≡ page_past s p (drop i l)
-    past_more b h e f = sym (past_step false h (sym f ∙ e))
-
-    pub past_done : length l ≤ i → page_past s p (drop i l) ≡ false
-    past_done h = ap (page_past s p) (drop_of_length-le l h) ∙ past_none
+  -- one of them runs past
+  pub past_any : (rs : List Record) → list_any past_here rs ≡ page_past s p rs
+  past_any = same_from_clauses (list_any past_here) (page_past s p) (λ r b. past_here r || b) (sym past_none) (λ r rs. refl) past_cons
 
   -- no image on the page runs past its store: each lies in it
   pub page_in_store : (rs : List Record) → page_past s p rs ≡ false → (r : Record) → Memᴰ r rs → eqb r.page.0 p.0 ≡ true → InStore s (image_of r)

@@ -6,11 +6,12 @@ use mathlib.Core.Path.{◌≡◌, refl, sym, ap, ◌∙◌, subst}
 use mathlib.Core.Bool.{true, false}
 use mathlib.Core.List.{List}
 use mathlib.Core.Option.{Option, none, some}
-use lib.ListN.{length, get_or}
+use lib.ListN.{length, get_or, take, drop}
 use denote.Ref.{Bor}
 use Rattle.geometry.specs.Words.{any, or_else}
 use Rattle.art.specs.Stores.{Stores, lent, of_store, bytes_of, runs_past, place_of}
 use Rattle.art.specs.declared.memory_rgba8_texture.Store.{Store}
+use Rattle.art.specs.declared.memory_rgba8_texture.Stores.{Stores as LentStores}
 use Rattle.art.specs.declared.memory_rgba8_texture.Store.TheVariants.{Symbols, Wording}
 use Rattle.art.proofs.Places.{row_in, in_store}
 use Rattle.records.specs.Settings.{blank_record}
@@ -54,16 +55,16 @@ row_start r y = r.offset + 4 * (y * r.source.w)
 pub row-few : (r : Record) (y : ℕ) → y ≤ 2048 → r.source.w ≤ 2048 → y * r.source.w ≤ 4194304
 row-few r y p q = mul-le-mul p q
 
-pub row_inside : (symbols wording : Bor (List ℕ)) (r : Record) (y : ℕ) → y < r.source.h → runs_past (lent symbols.now wording.now) (image_of r) ≡ false
-    → row_start r y + 4 * r.source.w ≤ length (of_store r.store symbols wording).now
+pub row_inside : (stores : LentStores) (r : Record) (y : ℕ) → y < r.source.h → runs_past (lent stores) (image_of r) ≡ false
+    → row_start r y + 4 * r.source.w ≤ length (of_store r.store stores.symbols stores.wording).now
 unfolding image_of bytes_of
-row_inside symbols wording r y h e =
-    let b = in_store (lent symbols.now wording.now) (image_of r) e in
+row_inside stores r y h e =
+    let b = in_store (lent stores) (image_of r) e in
     let i = row_in r.source.w r.source.h y h in
-    let same : length (of_store r.store symbols.now wording.now) ≡ length (of_store r.store symbols wording).now = ap length (swap r.store) in
+    let same : length (of_store r.store stores.symbols.now stores.wording.now) ≡ length (of_store r.store stores.symbols stores.wording).now = ap length (swap r.store) in
     omega arith
   where
-    swap : (k : Store) → of_store k symbols.now wording.now ≡ (of_store k symbols wording).now
+    swap : (k : Store) → of_store k stores.symbols.now stores.wording.now ≡ (of_store k stores.symbols stores.wording).now
     swap Symbols = refl
     swap Wording = refl
 
@@ -78,18 +79,28 @@ row_is r y =
     let q : row_start r y + 4 * r.source.w - row_start r y ≡ 4 * r.source.w = omega arith in
     λ i. record { store = r.store; start = p i; size = q i }
 
-module _ (l : Layout) (s : Stores) (k : Key) (y : ℕ) (symbols wording handed : Bor (List ℕ)) where
-  pub empty-handed : {q : Refusal} → read_refusal l s k y ≡ some q → IsPart symbols wording (record { store = Symbols; start = 0; size = 0 }) handed
-      → IsPart symbols wording (part_read l s k y) handed
+-- a part of the row's store, from the row's start to its end
+pub row_part_is : (stores : LentStores) (r : Record) (y : ℕ) (store : Bor (List ℕ)) → store ≡ of_store r.store stores.symbols stores.wording
+    → IsPart stores (record { store = r.store; start = row_start r y; size = row_start r y + 4 * r.source.w - row_start r y })
+    (record { ref_ptr = (store.ref_ptr.0, row_start r y + store.ref_ptr.1); now = take (row_start r y + 4 * r.source.w - row_start r y) (drop (row_start r y) store.now) })
+row_part_is stores r y store e = record {
+  block = ap (λ (b : Bor (List ℕ)). b.ref_ptr.0) e;
+  place = ap (λ (b : Bor (List ℕ)). row_start r y + b.ref_ptr.1) e;
+  bytes = ap (λ (b : Bor (List ℕ)). take (row_start r y + 4 * r.source.w - row_start r y) (drop (row_start r y) b.now)) e;
+}
+
+module _ (l : Layout) (s : Stores) (k : Key) (y : ℕ) (stores : LentStores) (handed : Bor (List ℕ)) where
+  pub empty-handed : {q : Refusal} → read_refusal l s k y ≡ some q → IsPart stores (record { store = Symbols; start = 0; size = 0 }) handed
+      → IsPart stores (part_read l s k y) handed
   unfolding part_read empty_part
-  empty-handed e p = subst (λ (o : Option Refusal). IsPart symbols wording (part_answer (row_part (record_named l k) y) o) handed) (sym e) p
+  empty-handed e p = subst (λ (o : Option Refusal). IsPart stores (part_answer (row_part (record_named l k) y) o) handed) (sym e) p
 
   pub row-handed : read_refusal l s k y ≡ none → (r : Record) → record_named l k ≡ r
-      → IsPart symbols wording (record { store = r.store; start = row_start r y; size = row_start r y + 4 * r.source.w - row_start r y }) handed
-      → IsPart symbols wording (part_read l s k y) handed
+      → IsPart stores (record { store = r.store; start = row_start r y; size = row_start r y + 4 * r.source.w - row_start r y }) handed
+      → IsPart stores (part_read l s k y) handed
   unfolding part_read
   row-handed e r q p =
       let is : row_part r y ≡ part_answer (row_part (record_named l k) y) (read_refusal l s k y) =
       ap (λ (z : Record). row_part z y) (sym q) ∙ sym (ap (part_answer (row_part (record_named l k) y)) e)
       in
-      subst (λ (part : Part). IsPart symbols wording part handed) (row_is r y ∙ is) p
+      subst (λ (part : Part). IsPart stores part handed) (row_is r y ∙ is) p

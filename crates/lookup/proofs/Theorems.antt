@@ -10,6 +10,7 @@ use mathlib.Core.Logic.{◌↔◌, ◌⊎◌, inl, inr}
 use mathlib.Core.Option.{Option, none, some}
 use lib.ListN.{length, get_or}
 use lib.Dec.{leb}
+use Rattle.std.specs.Prelude.{⊤, Option as Maybe, Some, None, Result, Ok, Err}
 use denote.Ref.{Bor}
 use borrow.Author.Tests.{eq-eqb, eqb-true}
 use Rattle.geometry.specs.Words.{any}
@@ -19,6 +20,7 @@ use Rattle.geometry.specs.declared.spot.Turn.TheVariants.{Upright, Turned}
 use Rattle.geometry.proofs.Words.{both}
 use Rattle.art.specs.Stores.{Stores, lent, runs_past, pixel_from, pixel_in}
 use Rattle.art.specs.declared.memory_rgba8_texture.Pixel.{Pixel}
+use Rattle.art.specs.declared.memory_rgba8_texture.Stores.{Stores as LentStores}
 use Rattle.records.specs.Refusals.{number_of, first_refusal, row_numbers}
 use Rattle.records.specs.Settings.{blank_record}
 use Rattle.records.specs.Records.{image_of}
@@ -39,10 +41,6 @@ use Rattle.rules.proofs.Theorems.{cells_apart}
 use Rattle.lookup.specs.Zones.{zone, reaches, owner, local, red, frame_pixel, pixel_of, pixel_among, pixel_at}
 use Rattle.lookup.specs.Looking.{page_past, look_row, look_refusal, look_answer, looked, looked_numbers}
 use Rattle.lookup.specs.Reading.{read_row, read_refusal, read, read_numbers, Part, row_part, empty_part, part_answer, part_read, part_bytes, IsPart}
-use Rattle.lookup.specs.declared.image_row.Read.{Read}
-use Rattle.lookup.specs.declared.image_row.Read.TheVariants.{Refused as RowRefused}
-use Rattle.lookup.specs.declared.texture_packer.Looked.{Looked}
-use Rattle.lookup.specs.declared.texture_packer.Looked.TheVariants.{Shows, NoPixel, Refused}
 use Rattle.lookup.proofs.Zones.{frame_outlined, local-before, local-after, upright_own, turned_own}
 use Rattle.lookup.proofs.Apart.{zone_apart, cells_two}
 use Rattle.lookup.proofs.Owners.{FirstAt, NonePasses, first-is, none_is, look, only-first, reached_on, reached_in}
@@ -62,33 +60,33 @@ read-order l s k y = (read-row l s k y, refl)
 
 -- `Passed n` says that none of the first n checks of the row holds.
 module _ (l : Layout) (s : Stores) (p : Page) (x y : ℕ) where
-  pub look_2 : looked l s p x y ≡ Refused NotWellFormed ↔ (Passed 0 (look_row l s p) × (not (well_formed l) ≡ true))
+  pub look_2 : looked l s p x y ≡ Err NotWellFormed ↔ (Passed 0 (look_row l s p) × (not (well_formed l) ≡ true))
   look_2 = look_at l s p x y 0 (omega arith) (refl, refl)
 
-  pub look_11 : looked l s p x y ≡ Refused NoSuchPage ↔ (Passed 1 (look_row l s p) × (no_such_page l p ≡ true))
+  pub look_11 : looked l s p x y ≡ Err NoSuchPage ↔ (Passed 1 (look_row l s p) × (no_such_page l p ≡ true))
   look_11 = look_at l s p x y 1 (omega arith) (refl, refl)
 
-  pub look_5 : looked l s p x y ≡ Refused PastStore ↔ (Passed 2 (look_row l s p) × (page_past s p (standing l) ≡ true))
+  pub look_5 : looked l s p x y ≡ Err PastStore ↔ (Passed 2 (look_row l s p) × (page_past s p (standing l) ≡ true))
   look_5 = look_at l s p x y 2 (omega arith) (refl, refl)
 
   -- no other number is answered
-  pub look_only : (r : Refusal) → looked l s p x y ≡ Refused r → Memᴰ (number_of r) (2 ∷ 11 ∷ 5 ∷ [])
+  pub look_only : (r : Refusal) → looked l s p x y ≡ Err r → Memᴰ (number_of r) (2 ∷ 11 ∷ 5 ∷ [])
   look_only r e = answer_in (look_row l s p) r (sym (look_row_lem l s p) ∙ refused-looked l s p x y r e)
 
 module _ (l : Layout) (s : Stores) (k : Key) (y : ℕ) where
-  pub read_2 : read l s k y ≡ RowRefused NotWellFormed ↔ (Passed 0 (read_row l s k y) × (not (well_formed l) ≡ true))
+  pub read_2 : read l s k y ≡ Err NotWellFormed ↔ (Passed 0 (read_row l s k y) × (not (well_formed l) ≡ true))
   read_2 = read_at l s k y 0 (omega arith) (refl, refl)
 
-  pub read_15 : read l s k y ≡ RowRefused NoSuchKey ↔ (Passed 1 (read_row l s k y) × (not (any (has_key k) (standing l)) ≡ true))
+  pub read_15 : read l s k y ≡ Err NoSuchKey ↔ (Passed 1 (read_row l s k y) × (not (any (has_key k) (standing l)) ≡ true))
   read_15 = read_at l s k y 1 (omega arith) (refl, refl)
 
-  pub read_13 : read l s k y ≡ RowRefused BadRows ↔ (Passed 2 (read_row l s k y) × (leb (record_named l k).source.h y ≡ true))
+  pub read_13 : read l s k y ≡ Err BadRows ↔ (Passed 2 (read_row l s k y) × (leb (record_named l k).source.h y ≡ true))
   read_13 = read_at l s k y 2 (omega arith) (refl, refl)
 
-  pub read_5 : read l s k y ≡ RowRefused PastStore ↔ (Passed 3 (read_row l s k y) × (runs_past s (image_of (record_named l k)) ≡ true))
+  pub read_5 : read l s k y ≡ Err PastStore ↔ (Passed 3 (read_row l s k y) × (runs_past s (image_of (record_named l k)) ≡ true))
   read_5 = read_at l s k y 3 (omega arith) (refl, refl)
 
-  pub read_only : (r : Refusal) → read l s k y ≡ RowRefused r → Memᴰ (number_of r) (2 ∷ 15 ∷ 13 ∷ 5 ∷ [])
+  pub read_only : (r : Refusal) → read l s k y ≡ Err r → Memᴰ (number_of r) (2 ∷ 15 ∷ 13 ∷ 5 ∷ [])
   read_only r e = answer_in (read_row l s k y) r (sym (read-row l s k y) ∙ refused-read l s k y r e)
 
 -- ## "A pixel belongs to the earliest accepted frame whose zone holds it. [..] No zone: no pixel."
@@ -114,11 +112,11 @@ module _ (l : Layout) (p : Page) (x y : ℕ) where
   unowned s o = ap (pixel_of l.config s x y) (none_is (reaches l.config p x y) blank_record (standing l) o)
 
   -- what it shows is what that frame gives it
-  pub shows : (s : Stores) (k : Pixel) → looked l s p x y ≡ Shows k
+  pub shows : (s : Stores) (k : Pixel) → looked l s p x y ≡ Ok (Some k)
       ↔ ((look_refusal l s p ≡ none) × ((i : ℕ) × Owns i × (k ≡ frame_pixel l.config s (standing_at l i) x y)))
   shows s k = (to, back)
     where
-      to : looked l s p x y ≡ Shows k → (look_refusal l s p ≡ none) × ((i : ℕ) × Owns i × (k ≡ frame_pixel l.config s (standing_at l i) x y))
+      to : looked l s p x y ≡ Ok (Some k) → (look_refusal l s p ≡ none) × ((i : ℕ) × Owns i × (k ≡ frame_pixel l.config s (standing_at l i) x y))
       to e = let f = found-looked l s p x y k e in (f.0, go f.1 (look (reaches l.config p x y) blank_record (standing l)))
         where
           go : pixel_at l s p x y ≡ some k → ((i : ℕ) × Owns i) ⊎ NoZone → (i : ℕ) × Owns i × (k ≡ frame_pixel l.config s (standing_at l i) x y)
@@ -131,16 +129,16 @@ module _ (l : Layout) (p : Page) (x y : ℕ) where
               never : some k ≡ none → ⊥
               never w = let z : ◌≡◌ {A = ℕ} 0 1 = cc in omega arith
 
-      back : (look_refusal l s p ≡ none) × ((i : ℕ) × Owns i × (k ≡ frame_pixel l.config s (standing_at l i) x y)) → looked l s p x y ≡ Shows k
+      back : (look_refusal l s p ≡ none) × ((i : ℕ) × Owns i × (k ≡ frame_pixel l.config s (standing_at l i) x y)) → looked l s p x y ≡ Ok (Some k)
       back h =
           sym (looked-found l s p x y h.0)
           ∙ ap (λ (o : Option Pixel). look_answer o none) (owned s h.1.0 h.1.1)
-          ∙ ap Shows (sym h.1.2)
+          ∙ ap (λ (q : Pixel). Ok (Some q)) (sym h.1.2)
 
-  pub no_pixel : (s : Stores) → looked l s p x y ≡ NoPixel ↔ ((look_refusal l s p ≡ none) × NoZone)
+  pub no_pixel : (s : Stores) → looked l s p x y ≡ Ok None ↔ ((look_refusal l s p ≡ none) × NoZone)
   no_pixel s = (to, λ h. sym (looked-found l s p x y h.0) ∙ ap (λ (o : Option Pixel). look_answer o none) (unowned s h.1))
     where
-      to : looked l s p x y ≡ NoPixel → (look_refusal l s p ≡ none) × NoZone
+      to : looked l s p x y ≡ Ok None → (look_refusal l s p ≡ none) × NoZone
       to e = let f = none-looked l s p x y e in (f.0, go f.1 (look (reaches l.config p x y) blank_record (standing l)))
         where
           go : pixel_at l s p x y ≡ none → ((i : ℕ) × Owns i) ⊎ NoZone → NoZone
@@ -214,7 +212,7 @@ past_frame = local-after
 -- empty part of the symbol store"
 
 -- a reference to a part reads that part's bytes
-pub row-bytes : (symbols wording : Bor (List ℕ)) (k : Part) (r : Bor (List ℕ)) → IsPart symbols wording k r → r.now ≡ part_bytes (lent symbols.now wording.now) k
+pub row-bytes : (stores : LentStores) (k : Part) (r : Bor (List ℕ)) → IsPart stores k r → r.now ≡ part_bytes (lent stores) k
 row-bytes = part_reads
 
 module _ (l : Layout) (s : Stores) (k : Key) (y : ℕ) where
@@ -238,21 +236,21 @@ module _ (l : Layout) (s : Stores) (k : Key) (y : ℕ) where
 
 -- ## "a definition gives this paper's number and values for each of its cases"
 
-pub looked_one : (a b : Looked) → looked_numbers a ≡ looked_numbers b → a ≡ b
+pub looked_one : (a b : Result (Maybe Pixel) Refusal) → looked_numbers a ≡ looked_numbers b → a ≡ b
 looked_one = looked_tells
 
-pub read_one : (a b : Read) → read_numbers a ≡ read_numbers b → a ≡ b
+pub read_one : (a b : Result ⊤ Refusal) → read_numbers a ≡ read_numbers b → a ≡ b
 read_one = read_tells
 
 -- ## "any two results allowed for one input are shown equal"
 
-pub one_pixel : (l : Layout) (s : Stores) (p : Page) (x y : ℕ) {r q : Looked} → r ≡ looked l s p x y → q ≡ looked l s p x y → r ≡ q
+pub one_pixel : (l : Layout) (s : Stores) (p : Page) (x y : ℕ) {r q : Result (Maybe Pixel) Refusal} → r ≡ looked l s p x y → q ≡ looked l s p x y → r ≡ q
 one_pixel l s p x y = one (looked l s p x y)
 
-pub one_refusal : (l : Layout) (s : Stores) (k : Key) (y : ℕ) {r q : Read} → r ≡ read l s k y → q ≡ read l s k y → r ≡ q
+pub one_refusal : (l : Layout) (s : Stores) (k : Key) (y : ℕ) {r q : Result ⊤ Refusal} → r ≡ read l s k y → q ≡ read l s k y → r ≡ q
 one_refusal l s k y = one (read l s k y)
 
 -- a reference is where it points and what it reads
-pub one_row : (symbols wording : Bor (List ℕ)) (k : Part) {r q : Bor (List ℕ)} → IsPart symbols wording k r → IsPart symbols wording k q
+pub one_row : (stores : LentStores) (k : Part) {r q : Bor (List ℕ)} → IsPart stores k r → IsPart stores k q
     → (r.ref_ptr.0 ≡ q.ref_ptr.0) × (r.ref_ptr.1 ≡ q.ref_ptr.1) × (r.now ≡ q.now)
-one_row symbols wording k p w = (p.block ∙ sym w.block, p.place ∙ sym w.place, p.bytes ∙ sym w.bytes)
+one_row stores k p w = (p.block ∙ sym w.block, p.place ∙ sym w.place, p.bytes ∙ sym w.bytes)

@@ -25,15 +25,6 @@ zone-is c r x y p q = λ i. record { x = p i; y = q i; w = r.frame.w + 2 * c.ext
 
 -- ## a distance from the frame's corner
 
--- below the side, and past it
-pub local-within : (d x corner side : ℕ) → d ≡ x - corner → d < side → d ≡ local x corner side
-unfolding local
-local-within d x corner side e h = omega arith
-
-pub local_past : (d x corner side : ℕ) → d ≡ x - corner → side ≤ d → side - 1 ≡ local x corner side
-unfolding local
-local_past d x corner side e h = omega arith
-
 -- it is one of the frame's
 pub local_in : (n x corner side : ℕ) → n ≡ local x corner side → 1 ≤ side → n < side
 unfolding local

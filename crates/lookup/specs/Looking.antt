@@ -1,6 +1,6 @@
 -- Pixel: its row of checks, left to right, the answer where none holds, and the answer's numbers and values.
 -- Assumes nothing.
-use Rattle.std.specs.Prelude.{ℕ, Bool, not, List, [], ◌∷◌}
+use Rattle.std.specs.Prelude.{ℕ, Bool, not, Option as Maybe, Some, None, Result, Ok, Err, List, [], ◌∷◌}
 use Rattle.std.proofs.Math.Option.{Option, none, some}
 use Rattle.geometry.specs.Words.{any}
 use Rattle.art.specs.Stores.{Stores, runs_past}
@@ -15,8 +15,6 @@ use Rattle.records.specs.declared.layout.Layout.{Layout}
 use Rattle.records.specs.declared.refusal.Refusal.{Refusal}
 use Rattle.records.specs.declared.refusal.Refusal.TheVariants.{NotWellFormed, NoSuchPage, PastStore}
 use Rattle.lookup.specs.Zones.{pixel_at}
-use Rattle.lookup.specs.declared.texture_packer.Looked.{Looked}
-use Rattle.lookup.specs.declared.texture_packer.Looked.TheVariants.{Shows, NoPixel, Refused}
 
 -- 5: any image on that page runs past its store
 unfoldable pub page_past : Stores → Page → List Record → Bool
@@ -34,15 +32,15 @@ look_row l s p =
 unfoldable pub look_refusal : Layout → Stores → Page → Option Refusal
 look_refusal l s p = first_refusal (look_row l s p)
 
-abbrev pub look_answer : Option Pixel → Option Refusal → Looked
-look_answer none none = NoPixel
-look_answer (some k) none = Shows k
-look_answer k (some r) = Refused r
+abbrev pub look_answer : Option Pixel → Option Refusal → Result (Maybe Pixel) Refusal
+look_answer none none = Ok None
+look_answer (some k) none = Ok (Some k)
+look_answer k (some r) = Err r
 
-unfoldable pub looked : Layout → Stores → Page → ℕ → ℕ → Looked
+unfoldable pub looked : Layout → Stores → Page → ℕ → ℕ → Result (Maybe Pixel) Refusal
 looked l s p x y = look_answer (pixel_at l s p x y) (look_refusal l s p)
 
-abbrev pub looked_numbers : Looked → List ℕ
-looked_numbers NoPixel = 0 ∷ 0 ∷ []
-looked_numbers (Shows k) = 0 ∷ 1 ∷ k.r ∷ k.g ∷ k.b ∷ k.a ∷ []
-looked_numbers (Refused r) = number_of r ∷ []
+abbrev pub looked_numbers : Result (Maybe Pixel) Refusal → List ℕ
+looked_numbers (Ok None) = 0 ∷ 0 ∷ []
+looked_numbers (Ok (Some k)) = 0 ∷ 1 ∷ k.r ∷ k.g ∷ k.b ∷ k.a ∷ []
+looked_numbers (Err r) = number_of r ∷ []

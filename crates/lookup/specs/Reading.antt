@@ -1,11 +1,12 @@
 -- Row of an image: a part of the store that it lies in.
 -- Assumes nothing.
-use Rattle.std.specs.Prelude.{ℕ, ◌+◌, ◌*◌, ◌≡◌, not, List, [], ◌∷◌, take, drop, leb}
+use Rattle.std.specs.Prelude.{ℕ, ◌+◌, ◌*◌, ◌≡◌, ⊤, not, Result, Ok, Err, List, [], ◌∷◌, take, drop, leb}
 use Rattle.std.proofs.Math.Option.{Option, none, some}
 use Rattle.std.specs.Borrow.{Bor}
 use Rattle.geometry.specs.Words.{any}
 use Rattle.art.specs.Stores.{Stores, of_store, bytes_of, runs_past, place_of}
 use Rattle.art.specs.declared.memory_rgba8_texture.Store.{Store}
+use Rattle.art.specs.declared.memory_rgba8_texture.Stores.{Stores as LentStores}
 use Rattle.art.specs.declared.memory_rgba8_texture.Store.TheVariants.{Symbols}
 use Rattle.records.specs.Refusals.{number_of, Row, first_refusal}
 use Rattle.records.specs.Records.{image_of}
@@ -15,8 +16,6 @@ use Rattle.records.specs.declared.frame.Record.{Record}
 use Rattle.records.specs.declared.layout.Layout.{Layout}
 use Rattle.records.specs.declared.refusal.Refusal.{Refusal}
 use Rattle.records.specs.declared.refusal.Refusal.TheVariants.{NotWellFormed, NoSuchKey, BadRows, PastStore}
-use Rattle.lookup.specs.declared.image_row.Read.{Read}
-use Rattle.lookup.specs.declared.image_row.Read.TheVariants.{Done, Refused}
 
 -- ## row of an image: 2 15 13 5
 
@@ -32,16 +31,16 @@ unfoldable pub read_refusal : Layout → Stores → Key → ℕ → Option Refus
 read_refusal l s k y = first_refusal (read_row l s k y)
 
 -- the sister operation: it is handed back, or why not
-abbrev pub read_answer : Option Refusal → Read
-read_answer none = Done
-read_answer (some r) = Refused r
+abbrev pub read_answer : Option Refusal → Result ⊤ Refusal
+read_answer none = Ok tt
+read_answer (some r) = Err r
 
-unfoldable pub read : Layout → Stores → Key → ℕ → Read
+unfoldable pub read : Layout → Stores → Key → ℕ → Result ⊤ Refusal
 read l s k y = read_answer (read_refusal l s k y)
 
-abbrev pub read_numbers : Read → List ℕ
-read_numbers Done = 0 ∷ []
-read_numbers (Refused r) = number_of r ∷ []
+abbrev pub read_numbers : Result ⊤ Refusal → List ℕ
+read_numbers (Ok done) = 0 ∷ []
+read_numbers (Err r) = number_of r ∷ []
 
 -- a part of a store: which, from where, how many bytes
 pub record Part : Type 0 where
@@ -68,7 +67,7 @@ unfoldable pub part_bytes : Stores → Part → List ℕ
 part_bytes s k = take k.size (drop k.start (bytes_of s k.store))
 
 -- a reference to that part of the lent stores: it points into the store's own memory, at the start, and has the part's bytes
-pub record IsPart (symbols wording : Bor (List ℕ)) (k : Part) (r : Bor (List ℕ)) : Type 0 where
-  pub block : r.ref_ptr.0 ≡ (of_store k.store symbols wording).ref_ptr.0
-  pub place : r.ref_ptr.1 ≡ k.start + (of_store k.store symbols wording).ref_ptr.1
-  pub bytes : r.now ≡ take k.size (drop k.start (of_store k.store symbols wording).now)
+pub record IsPart (lent : LentStores) (k : Part) (r : Bor (List ℕ)) : Type 0 where
+  pub block : r.ref_ptr.0 ≡ (of_store k.store lent.symbols lent.wording).ref_ptr.0
+  pub place : r.ref_ptr.1 ≡ k.start + (of_store k.store lent.symbols lent.wording).ref_ptr.1
+  pub bytes : r.now ≡ take k.size (drop k.start (of_store k.store lent.symbols lent.wording).now)

@@ -3,7 +3,7 @@
 use Rattle.std.specs.Prelude.{ℕ, false, List, [], ◌∷◌, map, length}
 use Rattle.geometry.specs.Words.{from}
 use Rattle.geometry.specs.declared.spot.Turn.TheVariants.{Upright}
-use Rattle.art.specs.Stores.{Stores, lent}
+use Rattle.art.specs.Stores.{Stores, holding}
 use Rattle.art.specs.declared.memory_rgba8_texture.Store.{Store}
 use Rattle.records.specs.Records.{store_number}
 use Rattle.records.specs.Samples.{rect, source, made, laid}
@@ -27,7 +27,7 @@ key n = record { 0 = n }
 
 -- n bytes of symbols, which count from 0 on, and m of wording, which count from 100 on
 unfoldable pub counting : ℕ → ℕ → Stores
-counting n m = lent (from 0 n) (from 100 m)
+counting n m = holding (from 0 n) (from 100 m)
 
 -- these stand, and no others
 unfoldable pub standing_in : Config → List Record → Layout

@@ -1,6 +1,6 @@
 // Pixels of a page, after get_frame_at and get of texture_packer.rs of texture_packer. There a frame is looked up in a map, in no order; here
 // the earliest accepted wins.
-ghost use Rattle.std.specs.Prelude.{◌≡◌, true, false, ◌&&◌, ◌-◌, ◌≤◌, ◌<◌, eqb};
+ghost use Rattle.std.specs.Prelude.{◌≡◌, Ok, true, false, ◌&&◌, ◌-◌, ◌≤◌, ◌<◌, eqb};
 ghost use Rattle.std.proofs.Math.Option.{none};
 ghost use Rattle.art.specs.Stores.{lent, runs_past, InStore, BoxIn};
 ghost use Rattle.records.specs.Settings.{in_bounds};
@@ -9,7 +9,7 @@ ghost use Rattle.records.specs.Layouts.{standing, well_formed};
 ghost use Rattle.lookup.specs.Zones.{zone, reaches, local, box_pixel, red, frame_pixel, pixel_at};
 ghost use Rattle.lookup.specs.Looking.{page_past, look_answer, looked, looked_numbers};
 
-use art::memory_rgba8_texture::Pixel;
+use art::memory_rgba8_texture::{Pixel, Stores};
 use art::{memory_rgba8_texture, sub_texture, texture};
 use geometry::rect::Rect;
 use geometry::spot::Turn;
@@ -19,31 +19,16 @@ use records::refusal::Refusal;
 use records::texture_packer_config::Config;
 use records::{frame, layout};
 
-#[derive(Clone, Copy)]
-pub enum Looked {
-    Shows(Pixel),
-    NoPixel,
-    Refused(Refusal),
-}
-
-// Not below 0.
-fn less(n: u32, e: u32) -> u32
-    ensures { result ≡ n - e }
-{
-    if n < e { 0 } else { n - e }
-}
-
 pub fn zone_of(c: Config, r: Record) -> Rect
     requires { (in_bounds c ≡ true) × (record_well_formed c r ≡ true) }
     ensures { result ≡ zone c r }
 {
     let f = r.frame;
     let e = c.extrusion;
-    let x = less(f.x, e);
-    let y = less(f.y, e);
+    // The zone's corner is not below 0.
     Rect {
-        x,
-        y,
+        x: f.x.saturating_sub(e),
+        y: f.y.saturating_sub(e),
         w: f.w + 2 * e,
         h: f.h + 2 * e,
     }
@@ -54,28 +39,27 @@ fn reaches_pixel(c: Config, page: Page, r: Record, x: u32, y: u32) -> bool
     ensures { result ≡ reaches c page x y r }
 {
     let z = zone_of(c, r);
-    (r.page.0 == page.0) & z.contains_point(x, y)
+    (r.page == page) & z.contains_point(x, y)
 }
 
 fn local_of(x: u32, corner: u32, side: u32) -> u32
     requires { 1 ≤ side }
     ensures { result ≡ local x corner side }
 {
-    let d = less(x, corner);
-    if d < side { d } else { side - 1 }
+    x.saturating_sub(corner).min(side - 1)
 }
 
-fn box_pixel<'a>(symbols: &'a [u8], wording: &'a [u8], r: Record, x: u32, y: u32) -> Pixel
-    requires in_store { InStore (lent symbols.now wording.now) (image_of r) × BoxIn (box_of r) r.source.w r.source.h }
+fn box_pixel(stores: Stores<'_>, r: Record, x: u32, y: u32) -> Pixel
+    requires in_store { InStore (lent stores) (image_of r) × BoxIn (box_of r) r.source.w r.source.h }
     requires x_lt_w { (x < r.frame.w) × (y < r.frame.h) }
-    ensures { result ≡ box_pixel r.turn (lent symbols.now wording.now) (image_of r) (box_of r) x y }
+    ensures { result ≡ box_pixel r.turn (lent stores.entry) (image_of r) (box_of r) x y }
 {
     let image = frame::image_of(r);
     let kept = frame::box_of(r);
     let turn = r.turn;
     match turn {
-        Turn::Upright => sub_texture::get(symbols, wording, image, kept, x, y),
-        Turn::Turned => texture::get_rotated(symbols, wording, image, kept, x, y),
+        Turn::Upright => sub_texture::get(stores, image, kept, x, y),
+        Turn::Turned => texture::get_rotated(stores, image, kept, x, y),
     }
 }
 
@@ -91,16 +75,9 @@ fn outline() -> Pixel
 }
 
 // The pixel that a frame gives a column and a row of its zone.
-pub fn frame_pixel<'a>(
-    symbols: &'a [u8],
-    wording: &'a [u8],
-    c: Config,
-    r: Record,
-    x: u32,
-    y: u32,
-) -> Pixel
-    requires { InStore (lent symbols.now wording.now) (image_of r) × (record_well_formed c r ≡ true) }
-    ensures { result ≡ frame_pixel c (lent symbols.now wording.now) r x y }
+pub fn frame_pixel(stores: Stores<'_>, c: Config, r: Record, x: u32, y: u32) -> Pixel
+    requires { InStore (lent stores) (image_of r) × (record_well_formed c r ≡ true) }
+    ensures { result ≡ frame_pixel c (lent stores.entry) r x y }
 {
     let f = r.frame;
     if c.outlines & f.is_outline(x, y) {
@@ -108,78 +85,59 @@ pub fn frame_pixel<'a>(
     }
     let column = local_of(x, f.x, f.w);
     let row = local_of(y, f.y, f.h);
-    box_pixel(symbols, wording, r, column, row)
+    box_pixel(stores, r, column, row)
 }
 
-fn on_page_past<'a>(symbols: &'a [u8], wording: &'a [u8], page: Page, r: Record) -> bool
-    ensures { result ≡ (eqb r.page.0 page.0 && runs_past (lent symbols.now wording.now) (image_of r)) }
+fn on_page_past(stores: Stores<'_>, page: Page, r: Record) -> bool
+    ensures { result ≡ (eqb r.page.0 page.0 && runs_past (lent stores.entry) (image_of r)) }
 {
     let image = frame::image_of(r);
-    (r.page.0 == page.0) & memory_rgba8_texture::runs_past(symbols, wording, image)
+    (r.page == page) & memory_rgba8_texture::runs_past(stores, image)
 }
 
 // 5: whether any image on that page runs past its store.
-pub fn page_past<'a>(l: Layout, symbols: &'a [u8], wording: &'a [u8], page: Page) -> bool
+pub fn page_past(l: Layout, stores: Stores<'_>, page: Page) -> bool
     requires { well_formed l ≡ true }
-    ensures { result ≡ page_past (lent symbols.now wording.now) page (standing l) }
+    ensures { result ≡ page_past (lent stores.entry) page (standing l) }
 {
-    let count = l.count;
-    let mut i = 0;
-    while i < count {
-        let r = l.records[i];
-        if on_page_past(symbols, wording, page, r) {
-            return true;
-        }
-        i += 1;
-    }
-    false
+    l.records[..l.count]
+        .iter()
+        .any(|r| on_page_past(stores, page, *r))
 }
 
 // The earliest frame whose zone holds the pixel shows it.
-fn pixel_at<'a>(
-    l: Layout,
-    symbols: &'a [u8],
-    wording: &'a [u8],
-    page: Page,
-    x: u32,
-    y: u32,
-) -> Looked
-    requires { (well_formed l ≡ true) × (page_past (lent symbols.now wording.now) page (standing l) ≡ false) }
-    ensures { result ≡ look_answer (pixel_at l (lent symbols.now wording.now) page x y) none }
+fn pixel_at(l: Layout, stores: Stores<'_>, page: Page, x: u32, y: u32) -> Option<Pixel>
+    requires { (well_formed l ≡ true) × (page_past (lent stores) page (standing l) ≡ false) }
+    ensures { Ok result ≡ look_answer (pixel_at l (lent stores.entry) page x y) none }
 {
     let c = l.config;
-    let count = l.count;
-    let mut i = 0;
-    while i < count {
-        let r = l.records[i];
-        if reaches_pixel(c, page, r, x, y) {
-            return Looked::Shows(frame_pixel(symbols, wording, c, r, x, y));
+    for r in &l.records[..l.count] {
+        if reaches_pixel(c, page, *r, x, y) {
+            return Some(frame_pixel(stores, c, *r, x, y));
         }
-        i += 1;
     }
-    Looked::NoPixel
+    None
 }
 
 // pixel: 2 11 5
-pub fn pixel<'a>(
+pub fn pixel(
     l: Layout,
-    symbols: &'a [u8],
-    wording: &'a [u8],
+    stores: Stores<'_>,
     page: Page,
     x: u32,
     y: u32,
-) -> Looked
-    ensures value { result ≡ looked l (lent symbols.now wording.now) page x y }
-    ensures result_value { looked_numbers result ≡ looked_numbers (looked l (lent symbols.now wording.now) page x y) }
+) -> Result<Option<Pixel>, Refusal>
+    ensures value { result ≡ looked l (lent stores.entry) page x y }
+    ensures result_value { looked_numbers result ≡ looked_numbers (looked l (lent stores.entry) page x y) }
 {
     if !layout::well_formed(l) {
-        return Looked::Refused(Refusal::NotWellFormed);
+        return Err(Refusal::NotWellFormed);
     }
     if layout::page_count(l) <= page.0 {
-        return Looked::Refused(Refusal::NoSuchPage);
+        return Err(Refusal::NoSuchPage);
     }
-    if page_past(l, symbols, wording, page) {
-        return Looked::Refused(Refusal::PastStore);
+    if page_past(l, stores, page) {
+        return Err(Refusal::PastStore);
     }
-    pixel_at(l, symbols, wording, page, x, y)
+    Ok(pixel_at(l, stores, page, x, y))
 }

@@ -1,9 +1,11 @@
 -- Laws of the eight pages' skylines. Assumes nothing.
+use Rattle.std.specs.Prelude.{Option, Some, None}
+use Rattle.geometry.specs.declared.spot.Spot.{Spot}
 use Prim.Native.Nat.{ℕ, ◌+◌, ◌-◌, ◌*◌, ◌≤◌, ◌<◌}
 use mathlib.Core.Path.{◌≡◌, sym, ap, ◌∙◌, subst}
 use mathlib.Core.Bool.{Bool, true, false}
 use mathlib.Core.List.{List, [], ◌++◌}
-use mathlib.Core.Option.{Option}
+use mathlib.Core.Option.{Option as Maybe}
 use native.Mathlib.Omega.{arith}
 use native.Mathlib.Decide.{ℕ_discrete, dec_lt}
 use lib.ListN.{length, get_or, take, drop, set, length-drop, length-set, length-append}
@@ -11,8 +13,6 @@ use lib.Seq.{get_or-take, get_or-drop, ext_get_or, take_at, drop_at, length-take
 use borrow.Rule.Slice.PartMut.{mid_of, post_of, put_mid, same_len_mid, mid_len, take_put, drop_put}
 use Rattle.geometry.specs.declared.rect.Rect.{Rect}
 use Rattle.geometry.specs.declared.rect.Size.{Size}
-use Rattle.geometry.specs.declared.spot.Found.{Found}
-use Rattle.geometry.specs.declared.spot.Found.TheVariants.{Nothing, At}
 use Rattle.geometry.specs.Words.{or_else}
 use Rattle.geometry.specs.Placing.{height, spot_for, is_found, grown}
 use Rattle.geometry.proofs.Words.{earliest-at, earliest-none}
@@ -103,10 +103,10 @@ module _ (P : ℕ → List ℕ → List ℕ → ℕ → Type 0) (p n : ℕ) (xs 
       go (no e) =
           rw (put_other p xs vx h lg.x lx q hq e, put_other p ys vy h lg.y ly q hq e, get_or-set_other ns p q n 0 e) (others e)
 
-one_more : (cells : List Rect) (o : Found) (m : ℕ) → length cells ≤ m → length (grown cells o) ≤ m + 1
+one_more : (cells : List Rect) (o : Option Spot) (m : ℕ) → length cells ≤ m → length (grown cells o) ≤ m + 1
 unfolding grown
-one_more cells Nothing m l = omega arith
-one_more cells (At k) m l = simp length-append (omega arith)
+one_more cells None m l = omega arith
+one_more cells (Some k) m l = simp length-append (omega arith)
 
 -- the skyline of one page anew
 pub put-stands : (area : Size) (rotation : Bool) (cell : Size) (p m : ℕ) (cells : ℕ → List Rect) (xs ys ns vx vy : List ℕ) (r : Packed)
@@ -141,11 +141,11 @@ module _ (cells : ℕ → List Rect) (area : Size) (rotation : Bool) (cell : Siz
   unfolding first_fitting
   page-found p l h y =
       let z : 0 + p ≡ p = omega arith in
-      sym (ap (λ (o : Option ℕ). or_else o n) (earliest-at on p 0 n l (λ c a b. h c (omega arith)) (ap on z ∙ y)) ∙ z)
+      sym (ap (λ (o : Maybe ℕ). or_else o n) (earliest-at on p 0 n l (λ c a b. h c (omega arith)) (ap on z ∙ y)) ∙ z)
 
   pub page-none : (p : ℕ) → p ≡ n → ((k : ℕ) → k < p → on k ≡ false) → p ≡ first_fitting cells area rotation cell n
   unfolding first_fitting
-  page-none p e h = e ∙ sym (ap (λ (o : Option ℕ). or_else o n) (earliest-none on 0 n (λ c a b. h c (omega arith))))
+  page-none p e h = e ∙ sym (ap (λ (o : Maybe ℕ). or_else o n) (earliest-none on 0 n (λ c a b. h c (omega arith))))
 
 -- ## empty pages
 

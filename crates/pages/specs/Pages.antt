@@ -1,11 +1,11 @@
 -- The skylines of eight pages, in three lists: 258 places of xs and of ys for each page, and its number of segments.
 -- Assumes nothing.
-use Rattle.std.specs.Prelude.{ℕ, ◌+◌, ◌*◌, ◌≤◌, ◌<◌, ◌≡◌, Bool, List, [], length, get_or, take, drop}
+use Rattle.std.specs.Prelude.{ℕ, ◌+◌, ◌*◌, ◌≤◌, ◌<◌, ◌≡◌, Bool, List, [], length, get_or, take, drop, Option}
+use Rattle.geometry.specs.declared.spot.Spot.{Spot}
 use Rattle.geometry.specs.Words.{from, earliest, or_else}
 use Rattle.geometry.specs.Placing.{height, spot_for, is_found, grown}
 use Rattle.geometry.specs.declared.rect.Rect.{Rect}
 use Rattle.geometry.specs.declared.rect.Size.{Size}
-use Rattle.geometry.specs.declared.spot.Found.{Found}
 use Rattle.skyline.specs.Skyline.{Holds}
 
 -- the first of the first n pages that has a spot for a cell, else n
@@ -33,7 +33,7 @@ abbrev pub Standing : ℕ → ℕ → List ℕ → List ℕ → List ℕ → Typ
 Standing W m xs ys ns = (cells : ℕ → List Rect) × Stands W cells m xs ys ns
 
 -- the cell placed on page p, and the other pages as they were
-pub record PutOn (area : Size) (rotation : Bool) (cell : Size) (p m : ℕ) (cells : ℕ → List Rect) (r : Found) (xs ys ns : List ℕ) : Type 0 where
+pub record PutOn (area : Size) (rotation : Bool) (cell : Size) (p m : ℕ) (cells : ℕ → List Rect) (r : Option Spot) (xs ys ns : List ℕ) : Type 0 where
   pub found : r ≡ spot_for (height (cells p)) area rotation cell
   pub stands : (after : ℕ → List Rect) → after p ≡ grown (cells p) r → ((q : ℕ) → (q ≡ p → ⊥) → after q ≡ cells q)
       → Stands area.w after (m + 1) xs ys ns

@@ -9,7 +9,7 @@ ghost use Rattle.geometry.specs.declared.rect.Rect.{Rect};
 ghost use Rattle.pages.specs.Pages.{Stands, Standing, first_fitting, PutOn, Fresh, Long};
 
 use geometry::rect::Size;
-use geometry::spot::Found;
+use geometry::spot::Spot;
 
 // Whether page p has a spot for a cell.
 pub fn can_pack_on<'a>(
@@ -66,7 +66,7 @@ pub fn pack_on(
     area: Size,
     rotation: bool,
     cell: Size,
-) -> Found
+) -> Option<Spot>
     requires by_index { (m : ℕ) × Standing area.w m xs.old ys.old ns.old × (m < 256) }
     requires p_bound { (p < 8) × HasPixels cell }
     ensures { (cells : ℕ → List Rect) (m : ℕ) → Stands area.w cells m xs.old ys.old ns.old →

@@ -7,12 +7,11 @@ use mathlib.Core.Option.{none, some}
 use borrow.Author.Tests.{le-leb, lt-leb}
 use Rattle.records.specs.Settings.{in_bounds, blank_config, empty_layout}
 use Rattle.records.specs.Layouts.{standing, well_formed, page_count, size_of_page}
+use Rattle.std.specs.Prelude.{Ok, Err}
 use Rattle.records.specs.Operations.{open_row, open_refusal, open_answer, opened, no_such_page, size_row, size_refusal, size_answer, page_sized}
 use Rattle.records.specs.declared.texture_packer_config.Config.{Config}
 use Rattle.records.specs.declared.frame.Page.{Page}
 use Rattle.records.specs.declared.layout.Layout.{Layout}
-use Rattle.records.specs.declared.layout.Opened.TheVariants.{Done, Refused}
-use Rattle.records.specs.declared.layout.Sized.TheVariants.{Is, Refused as SizeRefused}
 use Rattle.records.specs.declared.refusal.Refusal.{Refusal}
 use Rattle.records.specs.declared.refusal.Refusal.TheVariants.{OutOfBounds, NotWellFormed, NoSuchPage}
 use Rattle.records.proofs.Rows.{hit, skipped, none_left}
@@ -32,11 +31,11 @@ module _ (c : Config) where
   unfolding open_refusal open_row
   open_refuses e = hit (not (in_bounds c)) OutOfBounds [] (ap not e)
 
-  pub opened-done : in_bounds c ≡ true → opened c ≡ record { answer = Done; layout = empty_layout c }
+  pub opened-done : in_bounds c ≡ true → opened c ≡ record { answer = Ok tt; layout = empty_layout c }
   unfolding opened
   opened-done e = ap (open_answer c) (open_passes e)
 
-  pub opened-refused : in_bounds c ≡ false → opened c ≡ record { answer = Refused OutOfBounds; layout = empty_layout blank_config }
+  pub opened-refused : in_bounds c ≡ false → opened c ≡ record { answer = Err OutOfBounds; layout = empty_layout blank_config }
   unfolding opened
   opened-refused e = ap (open_answer c) (open_refuses e)
 
@@ -57,10 +56,10 @@ module _ (l : Layout) (p : Page) where
   size-passes e h =
       skipped (not (well_formed l)) NotWellFormed _ (ap not e) ∙ skipped _ NoSuchPage [] (lt-leb (page_count (standing l)) p.0 h) ∙ none_left
 
-  pub sized_refused : {r : Refusal} → size_refusal l p ≡ some r → page_sized l p ≡ SizeRefused r
+  pub sized_refused : {r : Refusal} → size_refusal l p ≡ some r → page_sized l p ≡ Err r
   unfolding page_sized
   sized_refused e = ap (size_answer (size_of_page l p)) e
 
-  pub sized_is : size_refusal l p ≡ none → page_sized l p ≡ Is (size_of_page l p)
+  pub sized_is : size_refusal l p ≡ none → page_sized l p ≡ Ok (size_of_page l p)
   unfolding page_sized
   sized_is e = ap (size_answer (size_of_page l p)) e

@@ -2,9 +2,9 @@
 -- Assumes nothing.
 use Prim.Native.Nat.{ℕ, ◌+◌, ◌≤◌, ◌<◌}
 use native.Mathlib.Omega.{arith}
-use mathlib.Core.Path.{◌≡◌, refl, sym}
+use mathlib.Core.Path.{◌≡◌, refl, sym, subst}
 use mathlib.Core.Bool.{Bool, true, false, ◌&&◌, beq}
-use mathlib.Core.List.{Memᴰ}
+use mathlib.Core.List.{List, Memᴰ}
 use lib.ListN.{length, get_or}
 use lib.Dec.{leb}
 use borrow.Author.Tests.{ltb-true, lt-ltb, leb-true, le-leb, eqb-true, not-true}
@@ -277,6 +277,11 @@ formed l e =
       each = each;
       at = λ i g. each (get_or (standing l) i blank_record) (at_in (standing l) blank_record i g);
     }
+
+-- each of the standing records, by its index
+pub stands-good : (l : Layout) → well_formed l ≡ true → (rs : List Record) → rs ≡ standing l → (i : ℕ) → i < length rs
+    → Good l.config (get_or rs i blank_record)
+stands-good l e rs q = subst (λ (qs : List Record). (i : ℕ) → i < length qs → Good l.config (get_or qs i blank_record)) (sym q) (formed l e).at
 
 -- the four parts make it well-formed
 pub forms : (l : Layout) → in_bounds l.config ≡ true → l.count ≤ l.config.images → all is_blank (unused l) ≡ true

@@ -11,17 +11,20 @@ use Rattle.geometry.specs.Placing.{turn_number}
 use Rattle.geometry.specs.declared.rect.Rect.{Rect}
 use Rattle.geometry.specs.declared.rect.Size.{Size}
 use Rattle.geometry.proofs.Words.{and_no_left, and_no_right}
-use Rattle.records.specs.Settings.{in_bounds}
+use Rattle.art.specs.contracts.memory_rgba8_texture.Store.{the_type as stores}
+use Rattle.art.specs.declared.memory_rgba8_texture.Store.{Store}
+use Rattle.art.specs.declared.memory_rgba8_texture.Store.TheVariants.{Symbols, Wording}
+use Rattle.geometry.specs.contracts.spot.Turn.{the_type as turns}
+use Rattle.geometry.specs.declared.spot.Turn.{Turn}
+use Rattle.geometry.specs.declared.spot.Turn.TheVariants.{Upright, Turned}
+use denote.Enum.Bare.{sameb}
+use Rattle.records.specs.Settings.{in_bounds, blank_record}
 use Rattle.records.specs.Records.{store_number, all_zero, is_blank, whole_of, box_of, lies_in, box_inside, record_well_formed}
 use Rattle.records.specs.Layouts.{standing, unused, well_formed}
 use Rattle.records.specs.declared.texture_packer_config.Config.{Config}
 use Rattle.records.specs.declared.frame.Record.{Record}
 use Rattle.records.specs.declared.layout.Layout.{Layout}
-use Rattle.records.proofs.Rows.{joined}
-
-pub zero_row : (x y w h : ℕ) → (((eqb x 0 && eqb y 0) && eqb w 0) && eqb h 0) ≡ all_zero x y w h
-unfolding all_zero
-zero_row x y w h = joined (eqb x 0) (eqb y 0 ∷ eqb w 0 ∷ eqb h 0 ∷ []) _ (refl, (refl, (refl, (refl, tt))))
+use Rattle.records.proofs.Rows.{joined, each_joined}
 
 pub config-row : (c : Config) (a b f g : Bool) → a ≡ within 1 4096 c.maxw → b ≡ within 1 4096 c.maxh → f ≡ within 1 8 c.pages → g ≡ within 1 256 c.images
     → ((((((a && b) && leb c.padding 64) && leb c.border 64) && leb c.extrusion 16) && f) && g) ≡ in_bounds c
@@ -30,13 +33,57 @@ config-row c a b f g ea eb ef eg =
     joined a (b ∷ leb c.padding 64 ∷ leb c.border 64 ∷ leb c.extrusion 16 ∷ f ∷ g ∷ []) _
     (ea, (eb, (refl, (refl, (refl, (ef, (eg, tt)))))))
 
-pub blank_row : (r : Record) (f s : Bool) (t u : ℕ) → f ≡ all_zero r.frame.x r.frame.y r.frame.w r.frame.h → t ≡ turn_number r.turn
-    → s ≡ all_zero r.source.x r.source.y r.source.w r.source.h → u ≡ store_number r.store
-    → (((((((eqb r.key.0 0 && eqb r.page.0 0) && f) && eqb t 0) && not r.trimmed) && s) && eqb u 0) && eqb r.offset 0) ≡ is_blank r
-unfolding is_blank
-blank_row r f s t u ef et es eu =
-    joined (eqb r.key.0 0) (eqb r.page.0 0 ∷ f ∷ eqb t 0 ∷ not r.trimmed ∷ s ∷ eqb u 0 ∷ eqb r.offset 0 ∷ []) _
-    (refl, (refl, (ef, (ap (λ (n : ℕ). eqb n 0) et, (refl, (es, (ap (λ (n : ℕ). eqb n 0) eu, (refl, tt))))))))
+is_upright : (t : Turn) → sameb turns t Upright ≡ eqb (turn_number t) 0
+is_upright Upright = refl
+is_upright Turned = refl
+
+is_symbols : (s : Store) → sameb stores s Symbols ≡ eqb (store_number s) 0
+is_symbols Symbols = refl
+is_symbols Wording = refl
+
+is_off : (b : Bool) → beq b false ≡ not b
+is_off true = refl
+is_off false = refl
+
+zero_row : (x y w h : ℕ) → (eqb x 0 && (eqb y 0 && (eqb w 0 && eqb h 0))) ≡ all_zero x y w h
+unfolding all_zero
+zero_row x y w h = each_joined (eqb x 0) (eqb y 0 ∷ eqb w 0 ∷ eqb h 0 ∷ []) _ (refl, (refl, (refl, (refl, tt))))
+
+-- a record compared with the blank one, as the derived `==` does it
+pub blank_row : (r b : Record) → b ≡ blank_record
+    → (eqb r.key.0 b.key.0
+    && (eqb r.page.0 b.page.0
+    && ((eqb r.frame.x b.frame.x && (eqb r.frame.y b.frame.y && (eqb r.frame.w b.frame.w && eqb r.frame.h b.frame.h)))
+    && (sameb turns r.turn b.turn
+    && (beq r.trimmed b.trimmed
+    && ((eqb r.source.x b.source.x && (eqb r.source.y b.source.y && (eqb r.source.w b.source.w && eqb r.source.h b.source.h)))
+    && (sameb stores r.store b.store && eqb r.offset b.offset)))))))
+    ≡ is_blank r
+unfolding is_blank blank_record
+blank_row r b e =
+    rw e
+    (each_joined
+    (eqb r.key.0 0)
+    (eqb r.page.0 0
+    ∷ (eqb r.frame.x 0 && (eqb r.frame.y 0 && (eqb r.frame.w 0 && eqb r.frame.h 0)))
+    ∷ sameb turns r.turn Upright
+    ∷ beq r.trimmed false
+    ∷ (eqb r.source.x 0 && (eqb r.source.y 0 && (eqb r.source.w 0 && eqb r.source.h 0)))
+    ∷ sameb stores r.store Symbols
+    ∷ eqb r.offset 0
+    ∷ []) _ (
+      refl,
+      (
+        refl,
+        (
+          zero_row r.frame.x r.frame.y r.frame.w r.frame.h,
+          (
+            is_upright r.turn,
+            (is_off r.trimmed, (zero_row r.source.x r.source.y r.source.w r.source.h, (is_symbols r.store, (refl, tt)))),
+          ),
+        ),
+      ),
+    ))
 
 -- ## a record
 
@@ -52,25 +99,20 @@ lies-row a n whole h = ap (λ (b : Bool). leb 1 n && b) (go (leb n (whole - a)) 
     go true e = e ∙ sym (le-leb (a + n) whole (omega (arith, leb-true n (whole - a) e)))
     go false e = e ∙ sym (lt-leb (a + n) whole (omega (arith, leb-false n (whole - a) e)))
 
-pub flag_yes : (a b : Bool) → a ≡ true → b ≡ beq a b
-flag_yes true true e = refl
-flag_yes true false e = refl
-flag_yes false b e = let z : true ≡ false = sym e in cc
-
-pub record_row : (c : Config) (r : Record) (k : Rect) (whole : Size) (w h x y t i : Bool) → k ≡ box_of r → whole ≡ whole_of r
+pub record_row : (c : Config) (r : Record) (k : Rect) (whole : Size) (w h x y i : Bool) → k ≡ box_of r → whole ≡ whole_of r
     → w ≡ within 1 2048 whole.w → h ≡ within 1 2048 whole.h
     → x ≡ within c.border (c.border + 4095) r.frame.x → y ≡ within c.border (c.border + 4095) r.frame.y
-    → t ≡ beq r.trimmed c.trim → i ≡ box_inside k whole
-    → ((((((ltb r.page.0 c.pages && w) && h) && x) && y) && t) && i) ≡ record_well_formed c r
+    → i ≡ box_inside k whole
+    → ((((((ltb r.page.0 c.pages && w) && h) && x) && y) && beq r.trimmed c.trim) && i) ≡ record_well_formed c r
 unfolding record_well_formed whole_of
-record_row c r k whole w h x y t i ek es ew eh ex ey et ei =
-    joined (ltb r.page.0 c.pages) (w ∷ h ∷ x ∷ y ∷ t ∷ i ∷ []) _ (
+record_row c r k whole w h x y i ek es ew eh ex ey ei =
+    joined (ltb r.page.0 c.pages) (w ∷ h ∷ x ∷ y ∷ beq r.trimmed c.trim ∷ i ∷ []) _ (
       refl,
       (
         ew ∙ ap (λ (s : Size). within 1 2048 s.w) es,
         (
           eh ∙ ap (λ (s : Size). within 1 2048 s.h) es,
-          (ex, (ey, (et, (ei ∙ ap (λ (q : Rect). box_inside q whole) ek ∙ ap (box_inside (box_of r)) es, tt)))),
+          (ex, (ey, (refl, (ei ∙ ap (λ (q : Rect). box_inside q whole) ek ∙ ap (box_inside (box_of r)) es, tt)))),
         ),
       ),
     )

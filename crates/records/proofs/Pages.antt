@@ -95,11 +95,8 @@ module _ (b p : ℕ) where
 pub grows-not : (on : Bool) (end most : ℕ) → on ≡ false → most ≡ grows on end most
 grows-not on end most e = rw e
 
-pub grows_to : (on : Bool) (a n b most : ℕ) → on ≡ true → 1 ≤ n → most < a + n + b → a + n + b ≡ grows on (end_at a n b) most
-grows_to on a n b most e h g = rw e (omega arith)
-
-pub grows_past : (on : Bool) (a n b most : ℕ) → on ≡ true → 1 ≤ n → a + n + b ≤ most → most ≡ grows on (end_at a n b) most
-grows_past on a n b most e h g = rw e (omega arith)
+pub grows_by : (on : Bool) (a n b most next : ℕ) → on ≡ true → 1 ≤ n → next ≡ max most (a + n + b) → next ≡ grows on (end_at a n b) most
+grows_by on a n b most next e h q = rw e (omega arith)
 
 -- ## the sides of a page
 

@@ -3,13 +3,15 @@ use Prim.Native.Nat.{ℕ, zero, suc, ◌<◌}
 use native.Mathlib.Omega.{arith}
 use mathlib.Core.Bool.{not, Bool, true, false, cond, ◌&&◌}
 use mathlib.Core.Logic.{◌↔◌, ◌⊎◌, inl, inr}
-use mathlib.Core.Path.{◌≡◌, refl, ap, ap₂, ◌∙◌}
+use mathlib.Core.Path.{◌≡◌, refl, sym, ap, ap₂, ◌∙◌}
 use mathlib.Core.List.{List, [], ◌∷◌, ◌++◌, Memᴰ}
 use mathlib.Core.Option.{none, some}
 use lib.Dec.{eqb}
 use lib.ListN.{length, get_or}
 use borrow.Author.Tests.{eq-eqb, not-true}
-use Rattle.geometry.proofs.Words.{not_both, and_left, and_right, both}
+use Rattle.std.specs.Bool.{MatchBool}
+use Rattle.std.specs.List.{AllWithin, HoldsAt}
+use Rattle.geometry.proofs.Words.{not_both, and_left, and_right, and_no_left, and_no_right, both}
 use Rattle.geometry.specs.Words.{all_of, all}
 use Rattle.records.specs.Refusals.{number_of, Row, first_refusal}
 use Rattle.records.specs.declared.refusal.Refusal.{Refusal}
@@ -67,6 +69,20 @@ joins b (c ∷ cs) = joins (b && c) cs ∙ and_assoc b c (all_of cs)
 pub joined : (b : Bool) (bs cs : List Bool) → Agree (b ∷ bs) cs → and_all b bs ≡ all_of cs
 unfolding all_of
 joined b bs cs h = joins b bs ∙ agree (b ∷ bs) cs h
+
+-- a row as a derived `==` joins it
+abbrev pub and_each : Bool → List Bool → Bool
+and_each b [] = b
+and_each b (c ∷ cs) = b && and_each c cs
+
+each_joins : (b : Bool) (cs : List Bool) → and_each b cs ≡ all_of (b ∷ cs)
+unfolding all_of
+each_joins b [] = and_true b
+each_joins b (c ∷ cs) = ap (λ (d : Bool). b && d) (each_joins c cs)
+
+-- is all of a row with which it agrees
+pub each_joined : (b : Bool) (bs cs : List Bool) → Agree (b ∷ bs) cs → and_each b bs ≡ all_of cs
+each_joined b bs cs h = each_joins b bs ∙ agree (b ∷ bs) cs h
 
 -- ## the first of a row
 
@@ -166,6 +182,24 @@ module _ {A : Type 0} (t : A → Bool) where
   unfolding all
   all_append [] m p q = q
   all_append (y ∷ ys) m p q = both (and_left (t y) (all t ys) p) (all_append ys m (and_right (t y) (all t ys) p) q)
+
+  each_passes : (l : List A) → AllWithin (λ x. t x ≡ true) l 0 (length l) → all t l ≡ true
+  unfolding all
+  each_passes [] h = refl
+  each_passes (y ∷ ys) h = both (h 0 y (omega arith) (omega arith)) (each_passes ys (λ k d a b. h (suc k) d (omega arith) (omega arith)))
+
+  one_fails : (l : List A) (k : ℕ) → k < length l → HoldsAt (λ x. t x ≡ false) l k → all t l ≡ false
+  unfolding all
+  one_fails [] k b e = absurd (omega arith)
+  one_fails (y ∷ ys) zero b e = and_no_left (t y) (all t ys) (e y)
+  one_fails (y ∷ ys) (suc k) b e = and_no_right (t y) (all t ys) (one_fails ys k (omega arith) (λ d. e d))
+
+  -- what a chain's `all` answers
+  pub all_is : (r : Bool) (l : List A)
+      → MatchBool r (AllWithin (λ x. t x ≡ true) l 0 (length l)) ((k : ℕ) × (k < length l) × HoldsAt (λ x. t x ≡ false) l k)
+      → r ≡ all t l
+  all_is true l h = sym (each_passes l h)
+  all_is false l h = sym (one_fails l h.0 h.1 h.2)
 
 -- what stands at an index is a member
 pub at_in : {A : Type 0} (l : List A) (d : A) (i : ℕ) → i < length l → Memᴰ (get_or l i d) l

@@ -35,6 +35,11 @@ module _ {A : Type 0} (t : A → Bool) (l : List A) (d : A) where
   unfolding all
   rest-done i h = ap (all t) (drop_of_length-le l h)
 
+-- ## some of a list, and one more
+
+pub take_next : {A : Type 0} (l : List A) (d : A) (i : ℕ) → i < length l → take (i + 1) l ≡ take i l ++ get_or l i d ∷ []
+take_next l d i h = ap (λ (j : ℕ). take j l) (add-one i) ∙ take-suc l i d h
+
 -- ## the standing records
 
 module _ (l : Layout) (long : length l.records ≡ 256) (few : l.count ≤ 256) where

@@ -12,19 +12,15 @@ use Rattle.geometry.proofs.Words.{both}
 use Rattle.geometry.specs.Words.{all, greatest}
 use Rattle.geometry.specs.declared.rect.Size.{Size}
 use Rattle.art.proofs.Theorems.{one}
-use Rattle.records.specs.Operations.{size_refusal, size_answer, no_such_page, opened_numbers, sized_numbers, open_row, opened, size_row, page_sized}
+use Rattle.std.specs.Prelude.{⊤, Result, Ok, Err}
+use Rattle.records.specs.Operations.{Opening, size_refusal, size_answer, no_such_page, opened_numbers, sized_numbers, open_row, opened, size_row, page_sized}
 use Rattle.records.specs.Refusals.{number_of, row_numbers}
-use Rattle.records.specs.declared.layout.Opened.{Opened}
-use Rattle.records.specs.declared.layout.Sized.{Sized}
 use Rattle.records.specs.Settings.{in_bounds, blank_config, blank_record, empty_layout}
 use Rattle.records.specs.Records.{is_blank, record_well_formed}
 use Rattle.records.specs.Layouts.{standing, unused, well_formed, page_count, size_of_page}
 use Rattle.records.specs.declared.texture_packer_config.Config.{Config}
 use Rattle.records.specs.declared.frame.Page.{Page}
 use Rattle.records.specs.declared.layout.Layout.{Layout}
-use Rattle.records.specs.declared.layout.Opened.TheVariants.{Done, Refused}
-use Rattle.records.specs.declared.layout.Opening.{Opening}
-use Rattle.records.specs.declared.layout.Sized.TheVariants.{Is, Refused as SizeRefused}
 use Rattle.records.specs.declared.refusal.Refusal.{Refusal}
 use Rattle.records.specs.declared.refusal.Refusal.TheVariants.{OutOfBounds, NotWellFormed, NotFaithful, BadSize, PastStore, KeyStands, AllClear, TooLarge, ImageLimit, PageLimit, NoSuchPage, EmptyPage, BadRows, BadLength, NoSuchKey, PastPage, BadInset, NothingStands}
 use Rattle.records.proofs.Rows.{First, is-first, passed, exactly}
@@ -50,36 +46,36 @@ module _ (c : Config) where
   answer_of : {o : Opening} → opened c ≡ o → (opened c).answer ≡ o.answer
   answer_of e = ap (λ (o : Opening). o.answer) e
 
-  pub open_done : (opened c).answer ≡ Done ↔ in_bounds c ≡ true
+  pub open_done : (opened c).answer ≡ Ok tt ↔ in_bounds c ≡ true
   open_done = (λ e. go e (either (in_bounds c)), λ b. answer_of (opened-done c b))
     where
-      go : (opened c).answer ≡ Done → (in_bounds c ≡ true) ⊎ (in_bounds c ≡ false) → in_bounds c ≡ true
+      go : (opened c).answer ≡ Ok tt → (in_bounds c ≡ true) ⊎ (in_bounds c ≡ false) → in_bounds c ≡ true
       go e (inl b) = b
       go e (inr b) = let a = answer_of (opened-refused c b) in let z : ◌≡◌ {A = ℕ} 0 1 = cc in absurd (omega arith)
 
   -- 1: configuration out of bounds; and no other number
-  pub open_1 : (r : Refusal) → (opened c).answer ≡ Refused r ↔ (r ≡ OutOfBounds) × (in_bounds c ≡ false)
-  open_1 r = (λ e. go e (either (in_bounds c)), λ h. answer_of (opened-refused c h.1) ∙ ap Refused (sym h.0))
+  pub open_1 : (r : Refusal) → (opened c).answer ≡ Err r ↔ (r ≡ OutOfBounds) × (in_bounds c ≡ false)
+  open_1 r = (λ e. go e (either (in_bounds c)), λ h. answer_of (opened-refused c h.1) ∙ ap Err (sym h.0))
     where
-      go : (opened c).answer ≡ Refused r → (in_bounds c ≡ true) ⊎ (in_bounds c ≡ false) → (r ≡ OutOfBounds) × (in_bounds c ≡ false)
+      go : (opened c).answer ≡ Err r → (in_bounds c ≡ true) ⊎ (in_bounds c ≡ false) → (r ≡ OutOfBounds) × (in_bounds c ≡ false)
       go e (inl b) = let a = answer_of (opened-done c b) in let z : ◌≡◌ {A = ℕ} 0 1 = cc in absurd (omega arith)
       go e (inr b) = let a = answer_of (opened-refused c b) in ((cc), b)
 
 module _ (l : Layout) (p : Page) where
-  answered : {r : Refusal} (o : Option Refusal) → size_answer (size_of_page l p) o ≡ SizeRefused r → o ≡ some r
+  answered : {r : Refusal} (o : Option Refusal) → size_answer (size_of_page l p) o ≡ Err r → o ≡ some r
   answered none e = let z : ◌≡◌ {A = ℕ} 0 1 = cc in absurd (omega arith)
   answered (some q) e = cc
 
-  given : {s : Size} (o : Option Refusal) → size_answer (size_of_page l p) o ≡ Is s → (o ≡ none) × (s ≡ size_of_page l p)
+  given : {s : Size} (o : Option Refusal) → size_answer (size_of_page l p) o ≡ Ok s → (o ≡ none) × (s ≡ size_of_page l p)
   given none e = (refl, (cc))
   given (some q) e = let z : ◌≡◌ {A = ℕ} 0 1 = cc in absurd (omega arith)
 
-  refusal_of : {r : Refusal} → page_sized l p ≡ SizeRefused r → size_refusal l p ≡ some r
+  refusal_of : {r : Refusal} → page_sized l p ≡ Err r → size_refusal l p ≡ some r
   unfolding page_sized
   refusal_of e = answered (size_refusal l p) e
 
   -- 2: not well-formed
-  pub size_2 : page_sized l p ≡ SizeRefused NotWellFormed ↔ well_formed l ≡ false
+  pub size_2 : page_sized l p ≡ Err NotWellFormed ↔ well_formed l ≡ false
   unfolding size_refusal size_row
   size_2 = (
     λ e. not-true _ ((exactly [] (not (well_formed l)) NotWellFormed ((no_such_page l p, NoSuchPage) ∷ []) refl refl).0 (refusal_of e)).1,
@@ -87,21 +83,21 @@ module _ (l : Layout) (p : Page) where
   )
 
   -- 11: page not below the page count, of a layout that is well-formed
-  pub size_11 : page_sized l p ≡ SizeRefused NoSuchPage ↔ (well_formed l ≡ true) × (page_count (standing l) ≤ p.0)
+  pub size_11 : page_sized l p ≡ Err NoSuchPage ↔ (well_formed l ≡ true) × (page_count (standing l) ≤ p.0)
   unfolding size_refusal size_row no_such_page
   size_11 = (to, λ h. sized_refused l p (size_no_page l p h.0 h.1))
     where
-      to : page_sized l p ≡ SizeRefused NoSuchPage → (well_formed l ≡ true) × (page_count (standing l) ≤ p.0)
+      to : page_sized l p ≡ Err NoSuchPage → (well_formed l ≡ true) × (page_count (standing l) ≤ p.0)
       to e =
           let h = (exactly ((not (well_formed l), NotWellFormed) ∷ []) (no_such_page l p) NoSuchPage [] refl refl).0 (refusal_of e) in
           (not-false _ h.0.0, leb-true _ _ h.1)
 
   -- no number: the size
-  pub size_is : (s : Size) → page_sized l p ≡ Is s ↔ (well_formed l ≡ true) × (p.0 < page_count (standing l)) × (s ≡ size_of_page l p)
+  pub size_is : (s : Size) → page_sized l p ≡ Ok s ↔ (well_formed l ≡ true) × (p.0 < page_count (standing l)) × (s ≡ size_of_page l p)
   unfolding page_sized size_refusal size_row no_such_page
-  size_is s = (to, λ h. sized_is l p (size-passes l p h.0 h.1) ∙ ap Is (sym h.2))
+  size_is s = (to, λ h. sized_is l p (size-passes l p h.0 h.1) ∙ ap Ok (sym h.2))
     where
-      to : page_sized l p ≡ Is s → (well_formed l ≡ true) × (p.0 < page_count (standing l)) × (s ≡ size_of_page l p)
+      to : page_sized l p ≡ Ok s → (well_formed l ≡ true) × (p.0 < page_count (standing l)) × (s ≡ size_of_page l p)
       to e =
           let g = given (size_refusal l p) e in
           let two = passed (not (well_formed l)) NotWellFormed ((no_such_page l p, NoSuchPage) ∷ []) g.0 in
@@ -109,7 +105,7 @@ module _ (l : Layout) (p : Page) where
           (not-false _ two.0, leb-false _ _ eleven.0, g.1)
 
   -- and no other number
-  pub size-only : (r : Refusal) → page_sized l p ≡ SizeRefused r → (r ≡ NotWellFormed) ⊎ (r ≡ NoSuchPage)
+  pub size-only : (r : Refusal) → page_sized l p ≡ Err r → (r ≡ NotWellFormed) ⊎ (r ≡ NoSuchPage)
   unfolding size_refusal size_row
   size-only r e = go (is-first (size_row l p) (refusal_of e))
     where
@@ -151,13 +147,13 @@ empty_formed c e =
     forms (empty_layout c) e (omega arith) (ap (all is_blank) (empty-unused c) ∙ all_same is_blank blank_record is_blank_lem 256)
     (ap (all (record_well_formed c)) (empty-standing c))
 
-pub opened_formed : (c : Config) → (opened c).answer ≡ Done → well_formed (opened c).layout ≡ true
+pub opened_formed : (c : Config) → (opened c).answer ≡ Ok tt → well_formed (opened c).layout ≡ true
 opened_formed c e =
     let b = (open_done c).0 e in
     ap well_formed (opened-empty c b) ∙ empty_formed c b
 
 -- and asked for any page's size it answers 11
-pub opened_pages : (c : Config) (p : Page) → (opened c).answer ≡ Done → page_sized (opened c).layout p ≡ SizeRefused NoSuchPage
+pub opened_pages : (c : Config) (p : Page) → (opened c).answer ≡ Ok tt → page_sized (opened c).layout p ≡ Err NoSuchPage
 unfolding page_count greatest
 opened_pages c p e =
     let b = (open_done c).0 e in
@@ -226,26 +222,26 @@ abbrev head : List ℕ → ℕ
 head [] = 0
 head (n ∷ ns) = n
 
-pub opened_tells : (o q : Opened) → opened_numbers o ≡ opened_numbers q → o ≡ q
-opened_tells Done Done e = refl
-opened_tells Done (Refused r) e = absurd (number-some r (sym (ap head e)))
-opened_tells (Refused r) Done e = absurd (number-some r (ap head e))
-opened_tells (Refused r) (Refused s) e = ap Refused (number_tells r s (ap head e))
+pub opened_tells : (o q : Result ⊤ Refusal) → opened_numbers o ≡ opened_numbers q → o ≡ q
+opened_tells (Ok a) (Ok b) e = refl
+opened_tells (Ok done) (Err r) e = absurd (number-some r (sym (ap head e)))
+opened_tells (Err r) (Ok done) e = absurd (number-some r (ap head e))
+opened_tells (Err r) (Err s) e = ap Err (number_tells r s (ap head e))
 
-pub sized_tells : (o q : Sized) → sized_numbers o ≡ sized_numbers q → o ≡ q
-sized_tells (Is s) (Is t) e =
+pub sized_tells : (o q : Result Size Refusal) → sized_numbers o ≡ sized_numbers q → o ≡ q
+sized_tells (Ok s) (Ok t) e =
     let w : s.w ≡ t.w = cc in
     let h : s.h ≡ t.h = cc in
-    λ i. Is (record { w = w i; h = h i })
-sized_tells (Is s) (SizeRefused r) e = absurd (number-some r (sym (ap head e)))
-sized_tells (SizeRefused r) (Is s) e = absurd (number-some r (ap head e))
-sized_tells (SizeRefused r) (SizeRefused s) e = ap SizeRefused (number_tells r s (ap head e))
+    λ i. Ok (record { w = w i; h = h i })
+sized_tells (Ok s) (Err r) e = absurd (number-some r (sym (ap head e)))
+sized_tells (Err r) (Ok s) e = absurd (number-some r (ap head e))
+sized_tells (Err r) (Err s) e = ap Err (number_tells r s (ap head e))
 
 -- so an answer is one of the cases exactly when it has that case's number and values
-pub opened_numbered : (o q : Opened) → o ≡ q ↔ opened_numbers o ≡ opened_numbers q
+pub opened_numbered : (o q : Result ⊤ Refusal) → o ≡ q ↔ opened_numbers o ≡ opened_numbers q
 opened_numbered o q = (ap opened_numbers, opened_tells o q)
 
-pub sized_numbered : (o q : Sized) → o ≡ q ↔ sized_numbers o ≡ sized_numbers q
+pub sized_numbered : (o q : Result Size Refusal) → o ≡ q ↔ sized_numbers o ≡ sized_numbers q
 sized_numbered o q = (ap sized_numbers, sized_tells o q)
 
 -- ## "any two results allowed for one input are shown equal"
@@ -253,5 +249,5 @@ sized_numbered o q = (ap sized_numbers, sized_tells o q)
 pub one_open : (c : Config) {r q : Opening} → r ≡ opened c → q ≡ opened c → r ≡ q
 one_open c = one (opened c)
 
-pub one_size : (l : Layout) (p : Page) {r q : Sized} → r ≡ page_sized l p → q ≡ page_sized l p → r ≡ q
+pub one_size : (l : Layout) (p : Page) {r q : Result Size Refusal} → r ≡ page_sized l p → q ≡ page_sized l p → r ≡ q
 one_size l p = one (page_sized l p)

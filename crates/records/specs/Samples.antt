@@ -8,12 +8,11 @@ use Rattle.geometry.specs.declared.spot.Turn.{Turn}
 use Rattle.art.specs.declared.memory_rgba8_texture.Store.{Store}
 use Rattle.records.specs.Settings.{blank_record}
 use Rattle.records.specs.Records.{store_number}
-use Rattle.records.specs.Operations.{opened_numbers}
+use Rattle.records.specs.Operations.{Opening, opened_numbers}
 use Rattle.records.specs.declared.texture_packer_config.Config.{Config}
 use Rattle.records.specs.declared.frame.Source.{Source}
 use Rattle.records.specs.declared.frame.Record.{Record}
 use Rattle.records.specs.declared.layout.Layout.{Layout}
-use Rattle.records.specs.declared.layout.Opening.{Opening}
 
 unfoldable pub bit : Bool → ℕ
 bit b = cond b 1 0

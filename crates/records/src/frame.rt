@@ -1,8 +1,7 @@
 // A standing image's record, after frame.rs of texture_packer, with the page, the store and the offset that the crate keeps elsewhere.
 ghost use Rattle.std.specs.Prelude.{◌≡◌, true};
-ghost use Rattle.std.specs.Bool.{beq};
 ghost use Rattle.records.specs.Settings.{in_bounds, blank_record};
-ghost use Rattle.records.specs.Records.{store_number, all_zero, is_blank, whole_of, box_of, image_of, lies_in, box_inside, record_well_formed};
+ghost use Rattle.records.specs.Records.{is_blank, whole_of, box_of, image_of, lies_in, box_inside, record_well_formed};
 
 use crate::texture_packer_config;
 use crate::texture_packer_config::Config;
@@ -11,14 +10,14 @@ use geometry::rect::{Rect, Size};
 use geometry::spot;
 use geometry::spot::Turn;
 
-#[derive(Clone, Copy)]
+#[derive(Clone, Copy, PartialEq, Eq)]
 pub struct Key(pub u32);
 
-#[derive(Clone, Copy)]
+#[derive(Clone, Copy, PartialEq, Eq)]
 pub struct Page(pub u32);
 
 // The trim box's corner in the whole image, and the whole image's size.
-#[derive(Clone, Copy)]
+#[derive(Clone, Copy, PartialEq, Eq)]
 pub struct Source {
     pub x: u32,
     pub y: u32,
@@ -26,7 +25,7 @@ pub struct Source {
     pub h: u32,
 }
 
-#[derive(Clone, Copy)]
+#[derive(Clone, Copy, PartialEq, Eq)]
 pub struct Record {
     pub key: Key,
     pub page: Page,
@@ -69,36 +68,10 @@ pub fn blank_record() -> Record
     }
 }
 
-fn store_number(s: Store) -> u32
-    ensures { result ≡ store_number s }
-{
-    match s {
-        Store::Symbols => 0,
-        Store::Wording => 1,
-    }
-}
-
-fn all_zero(x: u32, y: u32, w: u32, h: u32) -> bool
-    ensures { result ≡ all_zero x y w h }
-{
-    (x == 0) & (y == 0) & (w == 0) & (h == 0)
-}
-
 pub fn is_blank(r: Record) -> bool
     ensures { result ≡ is_blank r }
 {
-    let frame = r.frame;
-    let source = r.source;
-    let turn = r.turn;
-    let store = r.store;
-    (r.key.0 == 0)
-        & (r.page.0 == 0)
-        & all_zero(frame.x, frame.y, frame.w, frame.h)
-        & (spot::turn_number(turn) == 0)
-        & !r.trimmed
-        & all_zero(source.x, source.y, source.w, source.h)
-        & (store_number(store) == 0)
-        & (r.offset == 0)
+    r == blank_record()
 }
 
 // The record's trim box.
@@ -153,12 +126,6 @@ pub fn box_inside(k: Rect, whole: Size) -> bool
     lies_in(k.x, k.w, whole.w) & lies_in(k.y, k.h, whole.h)
 }
 
-fn same_flag(a: bool, b: bool) -> bool
-    ensures { result ≡ beq a b }
-{
-    if a { b } else { !b }
-}
-
 pub fn record_ok(c: Config, r: Record) -> bool
     requires { in_bounds c ≡ true }
     ensures { result ≡ record_well_formed c r }
@@ -172,6 +139,6 @@ pub fn record_ok(c: Config, r: Record) -> bool
         & texture_packer_config::is_within(1, 2048, whole.h)
         & texture_packer_config::is_within(b, b + 4095, f.x)
         & texture_packer_config::is_within(b, b + 4095, f.y)
-        & same_flag(r.trimmed, c.trim)
+        & (r.trimmed == c.trim)
         & box_inside(kept, whole)
 }

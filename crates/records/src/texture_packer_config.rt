@@ -3,7 +3,7 @@ ghost use Rattle.std.specs.Prelude.{◌≡◌};
 ghost use Rattle.geometry.specs.Words.{within};
 ghost use Rattle.records.specs.Settings.{in_bounds, blank_config};
 
-#[derive(Clone, Copy)]
+#[derive(Clone, Copy, PartialEq, Eq)]
 pub struct Config {
     pub maxw: u32,
     pub maxh: u32,

@@ -1,12 +1,13 @@
 -- Too large: an empty page has no spot. A page that fits the whole size fits the trimmed cell. What no check refuses is placed.
 -- Assumes nothing.
+use Rattle.std.specs.Prelude.{Option, Some, None}
 use Prim.Native.Nat.{ℕ, ◌≤◌, ◌<◌}
 use native.Mathlib.Omega.{arith}
 use mathlib.Core.Path.{◌≡◌, refl, sym, ◌∙◌, ap}
 use mathlib.Core.Bool.{Bool, true, false, cond, not, ◌&&◌}
 use mathlib.Core.List.{List, [], ◌∷◌, Memᴰ}
 use mathlib.Core.Logic.{◌↔◌, ◌⊎◌, inl, inr}
-use mathlib.Core.Option.{Option, none, some}
+use mathlib.Core.Option.{Option as Maybe, none, some}
 use lib.Dec.{leb, eqb}
 use borrow.Author.Tests.{leb-true, le-leb, eqb-true, eq-eqb, not-false}
 use Rattle.geometry.specs.Words.{within, from, any, earliest, or_else}
@@ -15,8 +16,6 @@ use Rattle.geometry.specs.Fits.{HasPixels, SidesFit}
 use Rattle.geometry.specs.declared.rect.Rect.{Rect}
 use Rattle.geometry.specs.declared.rect.Size.{Size}
 use Rattle.geometry.specs.declared.spot.Spot.{Spot}
-use Rattle.geometry.specs.declared.spot.Found.{Found}
-use Rattle.geometry.specs.declared.spot.Found.TheVariants.{Nothing, At}
 use Rattle.geometry.specs.declared.spot.Turn.{Turn}
 use Rattle.geometry.specs.declared.spot.Turn.TheVariants.{Upright, Turned}
 use Rattle.art.specs.Stores.{Stores, runs_past, BoxIn}
@@ -86,23 +85,23 @@ module _ (c : Config) (s : Size) where
   cell_pixels h = record { wide = let w = h.wide in omega arith; tall = let t = h.tall in omega arith }
 
   -- an empty page takes what is not too large
-  pub empty_spot : HasPixels s → too_large c s ≡ false → (k : Spot) × (spot_on c [] s ≡ At k)
+  pub empty_spot : HasPixels s → too_large c s ≡ false → (k : Spot) × (spot_on c [] s ≡ Some k)
   unfolding spot_on spot_for
-  empty_spot h e = empty_takes (canvas c) c.rotation (cell_size c s) (cell_pixels h) (best_of rank Nothing) rank_picks (large_sides e)
+  empty_spot h e = empty_takes (canvas c) c.rotation (cell_size c s) (cell_pixels h) (best_of rank None) rank_picks (large_sides e)
 
   -- and no page takes what is too large
-  pub spot_not_large : (cells : List Rect) (k : Spot) → spot_on c cells s ≡ At k → too_large c s ≡ false
+  pub spot_not_large : (cells : List Rect) (k : Spot) → spot_on c cells s ≡ Some k → too_large c s ≡ false
   unfolding spot_on
   spot_not_large cells k e = sides_large (placed-sides (height cells) (canvas c) c.rotation (cell_size c s) k e)
 
-  pub large_exactly : HasPixels s → too_large c s ≡ true ↔ spot_on c [] s ≡ Nothing
+  pub large_exactly : HasPixels s → too_large c s ≡ true ↔ spot_on c [] s ≡ None
   large_exactly h = (λ e. go (spot_on c [] s) refl e, λ e. back (too_large c s) refl e)
     where
-      go : (o : Found) → spot_on c [] s ≡ o → too_large c s ≡ true → o ≡ Nothing
-      go Nothing q e = refl
-      go (At k) q e = absurd (not_both e (spot_not_large [] k q))
+      go : (o : Option Spot) → spot_on c [] s ≡ o → too_large c s ≡ true → o ≡ None
+      go None q e = refl
+      go (Some k) q e = absurd (not_both e (spot_not_large [] k q))
 
-      back : (b : Bool) → too_large c s ≡ b → spot_on c [] s ≡ Nothing → b ≡ true
+      back : (b : Bool) → too_large c s ≡ b → spot_on c [] s ≡ None → b ≡ true
       back true q e = refl
       back false q e = let t = empty_spot h q in let z : ◌≡◌ {A = ℕ} 0 1 = cc t.1 in absurd (omega arith)
 
@@ -114,15 +113,15 @@ cell_smaller c small big le = record { w = let w = le.w in omega arith; h = let 
 
 -- a page that fits a size fits a smaller one
 pub smaller_fits : (c : Config) (cells : List Rect) (small big : Size) → NoLarger small big
-    → (k : Spot) → spot_on c cells big ≡ At k → (j : Spot) × (spot_on c cells small ≡ At j)
+    → (k : Spot) → spot_on c cells big ≡ Some k → (j : Spot) × (spot_on c cells small ≡ Some j)
 unfolding spot_on spot_for
 smaller_fits c cells small big le k e =
-    smaller_picked (height cells) (canvas c) c.rotation (cell_size c big) (best_of rank Nothing) rank_picks (cell_size c small)
+    smaller_picked (height cells) (canvas c) c.rotation (cell_size c big) (best_of rank None) rank_picks (cell_size c small)
     (cell_smaller c small big le) k e
 
-found_spot : (f : Found) → is_found f ≡ true → (k : Spot) × (f ≡ At k)
-found_spot Nothing e = absurd (not_both e refl)
-found_spot (At k) e = (k, refl)
+found_spot : (f : Option Spot) → is_found f ≡ true → (k : Spot) × (f ≡ Some k)
+found_spot None e = absurd (not_both e refl)
+found_spot (Some k) e = (k, refl)
 
 -- an image whose box is no larger than it and not too large is placed
 pub rule_places : (c : Config) (rs : List Record) (a : Art) → NoLarger (size_of a.kept) a.whole → HasPixels (size_of a.kept)
@@ -134,7 +133,7 @@ rule_places c rs a le h e = let t = go (page-fits c rs a.whole) in (record_at c 
     here = page_for c rs a.whole
 
     go : ((here < page_count rs) × (is_found (spot_on c (cells_on c rs here) a.whole) ≡ true)) ⊎ (here ≡ page_count rs)
-        → (k : Spot) × (spot_on c (cells_on c rs here) (size_of a.kept) ≡ At k)
+        → (k : Spot) × (spot_on c (cells_on c rs here) (size_of a.kept) ≡ Some k)
     go (inl f) =
         let k = found_spot (spot_on c (cells_on c rs here) a.whole) f.1 in
         smaller_fits c (cells_on c rs here) (size_of a.kept) a.whole le k.0 k.1
@@ -223,13 +222,13 @@ earliest-all {A} t (y ∷ ys) e x m = go (t y) refl e m (λ h n. earliest-all t 
     go false q h (Memᴰ.head z) f = ap t z ∙ q
     go false q h (Memᴰ.tail n) f = f h n
 
-not_found : (f : Found) → is_found f ≡ false → f ≡ Nothing
-not_found Nothing e = refl
-not_found (At k) e = absurd (not_both refl e)
+not_found : (f : Option Spot) → is_found f ≡ false → f ≡ None
+not_found None e = refl
+not_found (Some k) e = absurd (not_both refl e)
 
 -- no old page fits this size
 abbrev pub NoPageFits : Config → List Record → Size → Type 0
-NoPageFits c rs whole = (p : ℕ) → p < page_count rs → spot_on c (cells_on c rs p) whole ≡ Nothing
+NoPageFits c rs whole = (p : ℕ) → p < page_count rs → spot_on c (cells_on c rs p) whole ≡ None
 
 pub full_exactly : (c : Config) (rs : List Record) (whole : Size) → pages_full c rs whole ≡ true ↔ (NoPageFits c rs whole × (c.pages ≤ page_count rs))
 unfolding pages_full page_for first_page
@@ -241,7 +240,7 @@ full_exactly c rs whole = (to, back)
     n : ℕ
     n = page_count rs
 
-    last : (o : Option ℕ) → earliest fits (from 0 n) ≡ o → or_else o n ≡ n → o ≡ none
+    last : (o : Maybe ℕ) → earliest fits (from 0 n) ≡ o → or_else o n ≡ n → o ≡ none
     last none e q = refl
     last (some p) e q = let m = from_mem 0 n (earliest-found fits (from 0 n) e).0 in absurd (omega (arith, m.1))
 
@@ -256,4 +255,4 @@ full_exactly c rs whole = (to, back)
     back : NoPageFits c rs whole × (c.pages ≤ n) → (eqb (or_else (earliest fits (from 0 n)) n) n && leb c.pages n) ≡ true
     back h =
         let e = earliest-none fits 0 n (λ p a b. ap is_found (h.0 p (omega arith))) in
-        both (eq-eqb _ _ (ap (λ (o : Option ℕ). or_else o n) e)) (le-leb _ _ h.1)
+        both (eq-eqb _ _ (ap (λ (o : Maybe ℕ). or_else o n) e)) (le-leb _ _ h.1)

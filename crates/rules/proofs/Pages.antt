@@ -1,5 +1,6 @@
 -- The cells of each page and the page count after one record more; the page that the rule takes; the cell of a record that it gives.
 -- Assumes nothing.
+use Rattle.std.specs.Prelude.{Option, Some, None}
 use Prim.Native.Nat.{ℕ, max, ◌+◌, ◌-◌, ◌≤◌, ◌<◌}
 use native.Mathlib.Omega.{arith}
 use native.Mathlib.Decide.{ℕ_discrete}
@@ -7,7 +8,7 @@ use mathlib.Core.Path.{◌≡◌, refl, sym, ◌∙◌, ap, subst}
 use mathlib.Core.Bool.{Bool, true, false, cond}
 use mathlib.Core.List.{List, [], ◌∷◌, ◌++◌, map, append-nil, Memᴰ}
 use mathlib.Core.Logic.{◌⊎◌, inl, inr}
-use mathlib.Core.Option.{Option, none, some}
+use mathlib.Core.Option.{Option as Maybe, none, some}
 use lib.Dec.{eqb}
 use borrow.Author.Tests.{eq-eqb, ne_eqb}
 use Rattle.geometry.specs.Words.{from, only, earliest, or_else}
@@ -16,8 +17,6 @@ use Rattle.geometry.specs.Fits.{HasPixels, Fits, Filled, empty, put}
 use Rattle.geometry.specs.declared.rect.Rect.{Rect}
 use Rattle.geometry.specs.declared.rect.Size.{Size}
 use Rattle.geometry.specs.declared.spot.Spot.{Spot}
-use Rattle.geometry.specs.declared.spot.Found.{Found}
-use Rattle.geometry.specs.declared.spot.Found.TheVariants.{Nothing, At}
 use Rattle.geometry.specs.declared.spot.Turn.{Turn}
 use Rattle.geometry.specs.declared.spot.Turn.TheVariants.{Upright, Turned}
 use Rattle.records.specs.Records.{size_of}
@@ -94,7 +93,7 @@ page-fits c rs whole = go (earliest fits (from 0 (page_count rs))) refl
     fits : ℕ → Bool
     fits p = is_found (spot_on c (cells_on c rs p) whole)
 
-    go : (o : Option ℕ) → earliest fits (from 0 (page_count rs)) ≡ o
+    go : (o : Maybe ℕ) → earliest fits (from 0 (page_count rs)) ≡ o
         → ((or_else o (page_count rs) < page_count rs) × (fits (or_else o (page_count rs)) ≡ true)) ⊎ (or_else o (page_count rs) ≡ page_count rs)
     go none e = inr refl
     go (some p) e =
@@ -114,22 +113,22 @@ page-le c rs whole = go (page-fits c rs whole)
 
 pub record PlacedAt (c : Config) (rs : List Record) (a : Art) (r : Record) : Type 0 where
   pub spot : Spot
-  pub found : spot_on c (cells_on c rs (page_for c rs a.whole)) (size_of a.kept) ≡ At spot
+  pub found : spot_on c (cells_on c rs (page_for c rs a.whole)) (size_of a.kept) ≡ Some spot
   pub is : r ≡ record_at c a (page_for c rs a.whole) spot
 
 pub placed_at : (c : Config) (rs : List Record) (a : Art) {r : Record} → placed c rs a ≡ some r → PlacedAt c rs a r
 unfolding placed record_for
 placed_at c rs a {r} e = go (spot_on c (cells_on c rs (page_for c rs a.whole)) (size_of a.kept)) refl e
   where
-    go : (o : Found) → spot_on c (cells_on c rs (page_for c rs a.whole)) (size_of a.kept) ≡ o
+    go : (o : Option Spot) → spot_on c (cells_on c rs (page_for c rs a.whole)) (size_of a.kept) ≡ o
         → record_for c a (page_for c rs a.whole) o ≡ some r → PlacedAt c rs a r
-    go Nothing f h = let z : ◌≡◌ {A = ℕ} 0 1 = cc in absurd (omega arith)
-    go (At k) f h = record { spot = k; found = f; is = is k r h }
+    go None f h = let z : ◌≡◌ {A = ℕ} 0 1 = cc in absurd (omega arith)
+    go (Some k) f h = record { spot = k; found = f; is = is k r h }
       where
         is : (k : Spot) (r : Record) → some (record_at c a (page_for c rs a.whole) k) ≡ some r → r ≡ record_at c a (page_for c rs a.whole) k
         is k r h = cc
 
-pub spot_fits : (c : Config) (cells : List Rect) (size : Size) (k : Spot) → spot_on c cells size ≡ At k
+pub spot_fits : (c : Config) (cells : List Rect) (size : Size) (k : Spot) → spot_on c cells size ≡ Some k
     → Fits (height cells) (canvas c) c.rotation (cell_size c size) k
 unfolding spot_on
 spot_fits c cells size k e = chosen_fits (height cells) (canvas c) c.rotation (cell_size c size) k e

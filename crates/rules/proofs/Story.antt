@@ -1,4 +1,5 @@
 -- Demand 3: after any calls the layout is the one that the placing rule gives for the images still standing. Assumes nothing.
+use Rattle.std.specs.Prelude.{Err}
 use Prim.Native.Nat.{ℕ, ◌-◌, ◌≤◌, ◌<◌}
 use native.Mathlib.Omega.{arith}
 use mathlib.Core.Path.{◌≡◌, refl, sym, ◌∙◌, ap, subst}
@@ -22,13 +23,9 @@ use Rattle.records.specs.declared.refusal.Refusal.{Refusal}
 use Rattle.records.specs.declared.refusal.Refusal.TheVariants.{NotWellFormed}
 use Rattle.rules.specs.Placing.{canvas, cells_on, placed}
 use Rattle.rules.specs.Faithful.{art_of, faithful}
-use Rattle.rules.specs.Operations.{art_for, pages_full, offer_refusal, offer_answer, offered, withdraw_refusal, withdraw_answer, withdrawn, without_latest, withdraw_row}
+use Rattle.rules.specs.Operations.{art_for, pages_full, offer_refusal, offer_answer, offered, withdraw_refusal, withdraw_answer, withdrawn, without_latest, withdraw_row, Offering, Withdrawing}
 use Rattle.rules.specs.Story.{filled, filled_with, layout_for, Call, Offer, Withdraw, Ask, step, added, lost, stand, layout_after, images_after}
 use Rattle.rules.specs.declared.placing.Art.{Art}
-use Rattle.rules.specs.declared.multi_texture_packer.Offered.TheVariants.{Refused as OfferRefused}
-use Rattle.rules.specs.declared.multi_texture_packer.Offering.{Offering}
-use Rattle.rules.specs.declared.multi_texture_packer.Withdrawn.TheVariants.{Refused as WithdrawRefused}
-use Rattle.rules.specs.declared.multi_texture_packer.Withdrawing.{Withdrawing}
 use Rattle.geometry.proofs.Theorems.{page-inside, page_apart}
 use Rattle.records.proofs.Rows.{Nones, all_of_lem, hit}
 use Rattle.records.proofs.Checks.{bounded, formed}
@@ -209,11 +206,11 @@ stands_demand c l images h =
 -- ## a layout that is not well-formed: every call is refused and returns it
 
 module _ (l : Layout) (shut : well_formed l ≡ false) where
-  offer_shut : (s : Stores) (k : Key) (i : Image) → offered l s k i ≡ record { answer = OfferRefused NotWellFormed; layout = l }
+  offer_shut : (s : Stores) (k : Key) (i : Image) → offered l s k i ≡ record { answer = Err NotWellFormed; layout = l }
   offer_shut s k i =
       refused-offer l s k i NotWellFormed (offer-row l s k i ∙ hit (not (well_formed l)) NotWellFormed _ (ap not shut))
 
-  withdraw_shut : withdrawn l ≡ record { answer = WithdrawRefused NotWellFormed; layout = l }
+  withdraw_shut : withdrawn l ≡ record { answer = Err NotWellFormed; layout = l }
   withdraw_shut = refused_withdraw l NotWellFormed (withdraw_row_lem l ∙ hit (not (well_formed l)) NotWellFormed _ (ap not shut))
 
   step_shut : (k : Call) → step k l ≡ l

@@ -1,6 +1,6 @@
 -- Ask, offer, withdraw: each row's checks, left to right, and the answer where none holds; and the numbers and values of each answer.
 -- Assumes nothing.
-use Rattle.std.specs.Prelude.{ℕ, ◌+◌, ◌-◌, Bool, cond, not, ◌&&◌, List, [], ◌∷◌, get_or, set, leb, eqb}
+use Rattle.std.specs.Prelude.{ℕ, ◌+◌, ◌-◌, Bool, not, ◌&&◌, List, [], ◌∷◌, get_or, set, leb, eqb, Result, Ok, Err, true, false}
 use Rattle.std.proofs.Math.Option.{Option, none, some}
 use Rattle.geometry.specs.Words.{any, within}
 use Rattle.geometry.specs.Placing.{lying, orientations, is_found, turn_number}
@@ -18,19 +18,13 @@ use Rattle.records.specs.declared.frame.Key.{Key}
 use Rattle.records.specs.declared.frame.Page.{Page}
 use Rattle.records.specs.declared.frame.Record.{Record}
 use Rattle.records.specs.declared.layout.Layout.{Layout}
+use Rattle.records.specs.declared.layout.Answered.{Answered}
 use Rattle.records.specs.declared.refusal.Refusal.{Refusal}
 use Rattle.records.specs.declared.refusal.Refusal.TheVariants.{NotWellFormed, NotFaithful, BadSize, PastStore, KeyStands, AllClear, TooLarge, ImageLimit, PageLimit, NoSuchPage, NothingStands}
+use Rattle.rules.specs.declared.multi_texture_packer.Place.{Place}
 use Rattle.rules.specs.Placing.{canvas, cell_size, spot_on, cells_on, page_for, placed}
 use Rattle.rules.specs.Faithful.{faithful}
 use Rattle.rules.specs.declared.placing.Art.{Art}
-use Rattle.rules.specs.declared.multi_texture_packer.Asked.{Asked}
-use Rattle.rules.specs.declared.multi_texture_packer.Asked.TheVariants.{Yes, No, Refused as AskRefused}
-use Rattle.rules.specs.declared.multi_texture_packer.Offered.{Offered}
-use Rattle.rules.specs.declared.multi_texture_packer.Offered.TheVariants.{Placed, Refused as OfferRefused}
-use Rattle.rules.specs.declared.multi_texture_packer.Offering.{Offering}
-use Rattle.rules.specs.declared.multi_texture_packer.Withdrawn.{Withdrawn}
-use Rattle.rules.specs.declared.multi_texture_packer.Withdrawn.TheVariants.{Gone, Refused as WithdrawRefused}
-use Rattle.rules.specs.declared.multi_texture_packer.Withdrawing.{Withdrawing}
 
 -- 4: width or height outside 1 to 2048
 unfoldable pub bad_size : ℕ → ℕ → Bool
@@ -53,17 +47,20 @@ ask_refusal l p s = first_refusal (ask_row l p s)
 unfoldable pub fits_page : Layout → Page → Size → Bool
 fits_page l p s = is_found (spot_on l.config (cells_on l.config (standing l) p.0) s)
 
+abbrev pub Asked : Type 0
+Asked = Result Bool Refusal
+
 abbrev pub ask_answer : Bool → Option Refusal → Asked
-ask_answer b none = cond b Yes No
-ask_answer b (some r) = AskRefused r
+ask_answer b none = Ok b
+ask_answer b (some r) = Err r
 
 unfoldable pub asked : Layout → Page → Size → Asked
 asked l p s = ask_answer (fits_page l p s) (ask_refusal l p s)
 
 abbrev pub asked_numbers : Asked → List ℕ
-asked_numbers Yes = 0 ∷ 1 ∷ []
-asked_numbers No = 0 ∷ 0 ∷ []
-asked_numbers (AskRefused r) = number_of r ∷ []
+asked_numbers (Ok true) = 0 ∷ 1 ∷ []
+asked_numbers (Ok false) = 0 ∷ 0 ∷ []
+asked_numbers (Err r) = number_of r ∷ []
 
 -- ## offer: 2 3 4 5 6 7 8 9 10
 
@@ -109,18 +106,28 @@ offer_refusal l s k i = first_refusal (offer_row l s k i)
 unfoldable pub with_record : Layout → Record → Layout
 with_record l r = record { config = l.config; count = l.count + 1; records = set l.records l.count r }
 
+-- where a record is placed
+abbrev pub place_of : Record → Place
+place_of r = record { page = r.page; frame = r.frame; turn = r.turn }
+
+abbrev pub Offered : Type 0
+Offered = Result Place Refusal
+
+abbrev pub Offering : Type 0
+Offering = Answered Offered
+
 -- what nothing refuses is placed (Theorems), so the last case does not arise; it is no success
 abbrev pub offer_answer : Layout → Option Record → Option Refusal → Offering
-offer_answer l (some r) none = record { answer = Placed r.page r.frame r.turn; layout = with_record l r }
-offer_answer l none none = record { answer = OfferRefused TooLarge; layout = l }
-offer_answer l r (some n) = record { answer = OfferRefused n; layout = l }
+offer_answer l (some r) none = record { answer = Ok (place_of r); layout = with_record l r }
+offer_answer l none none = record { answer = Err TooLarge; layout = l }
+offer_answer l r (some n) = record { answer = Err n; layout = l }
 
 unfoldable pub offered : Layout → Stores → Key → Image → Offering
 offered l s k i = offer_answer l (placed l.config (standing l) (art_for l.config s k i)) (offer_refusal l s k i)
 
 abbrev pub offered_numbers : Offered → List ℕ
-offered_numbers (Placed p f t) = 0 ∷ p.0 ∷ f.x ∷ f.y ∷ f.w ∷ f.h ∷ turn_number t ∷ []
-offered_numbers (OfferRefused r) = number_of r ∷ []
+offered_numbers (Ok p) = 0 ∷ p.page.0 ∷ p.frame.x ∷ p.frame.y ∷ p.frame.w ∷ p.frame.h ∷ turn_number p.turn ∷ []
+offered_numbers (Err r) = number_of r ∷ []
 
 -- ## withdraw latest: 2 3 18
 
@@ -135,14 +142,20 @@ unfoldable pub without_latest : Layout → Layout
 without_latest l =
     record { config = l.config; count = l.count - 1; records = set l.records (l.count - 1) blank_record }
 
+abbrev pub Withdrawn : Type 0
+Withdrawn = Result Key Refusal
+
+abbrev pub Withdrawing : Type 0
+Withdrawing = Answered Withdrawn
+
 abbrev pub withdraw_answer : Layout → Option Refusal → Withdrawing
 withdraw_answer l none =
-    record { answer = Gone (get_or l.records (l.count - 1) blank_record).key; layout = without_latest l }
-withdraw_answer l (some r) = record { answer = WithdrawRefused r; layout = l }
+    record { answer = Ok (get_or l.records (l.count - 1) blank_record).key; layout = without_latest l }
+withdraw_answer l (some r) = record { answer = Err r; layout = l }
 
 unfoldable pub withdrawn : Layout → Withdrawing
 withdrawn l = withdraw_answer l (withdraw_refusal l)
 
 abbrev pub withdrawn_numbers : Withdrawn → List ℕ
-withdrawn_numbers (Gone k) = 0 ∷ k.0 ∷ []
-withdrawn_numbers (WithdrawRefused r) = number_of r ∷ []
+withdrawn_numbers (Ok k) = 0 ∷ k.0 ∷ []
+withdrawn_numbers (Err r) = number_of r ∷ []

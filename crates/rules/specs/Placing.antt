@@ -1,14 +1,12 @@
 -- Placing over pages: canvas, cell, a record's cell, the page, THE RULE.
 -- Assumes nothing.
-use Rattle.std.specs.Prelude.{ℕ, ◌+◌, ◌-◌, ◌*◌, List, map}
-use Rattle.std.proofs.Math.Option.{Option, none, some}
+use Rattle.std.specs.Prelude.{ℕ, ◌+◌, ◌-◌, ◌*◌, List, map, Option, Some, None}
+use Rattle.std.proofs.Math.Option.{Option as Maybe, none, some}
 use Rattle.geometry.specs.Words.{from, earliest, or_else}
 use Rattle.geometry.specs.Placing.{height, lying, spot_for, is_found}
 use Rattle.geometry.specs.declared.rect.Rect.{Rect}
 use Rattle.geometry.specs.declared.rect.Size.{Size}
 use Rattle.geometry.specs.declared.spot.Spot.{Spot}
-use Rattle.geometry.specs.declared.spot.Found.{Found}
-use Rattle.geometry.specs.declared.spot.Found.TheVariants.{Nothing, At}
 use Rattle.records.specs.Records.{size_of}
 use Rattle.records.specs.Layouts.{on_page, page_count}
 use Rattle.records.specs.declared.texture_packer_config.Config.{Config}
@@ -27,7 +25,7 @@ unfoldable pub cell_size : Config → Size → Size
 cell_size c s = record { w = s.w + margin c; h = s.h + margin c }
 
 -- where a page with these cells puts an image of this size, if it fits
-unfoldable pub spot_on : Config → List Rect → Size → Found
+unfoldable pub spot_on : Config → List Rect → Size → Option Spot
 spot_on c cells size = spot_for (height cells) (canvas c) c.rotation (cell_size c size)
 
 -- the record's cell on its page: the frame's corner less b, the frame's size plus p+2e
@@ -71,11 +69,11 @@ record_at c a p k =
       offset = a.offset;
     }
 
-unfoldable pub record_for : Config → Art → ℕ → Found → Option Record
-record_for c a p Nothing = none
-record_for c a p (At k) = some (record_at c a p k)
+unfoldable pub record_for : Config → Art → ℕ → Option Spot → Maybe Record
+record_for c a p None = none
+record_for c a p (Some k) = some (record_at c a p k)
 
 -- THE PLACING RULE: the first page that fits the whole size, or a new one, takes the trimmed cell
-unfoldable pub placed : Config → List Record → Art → Option Record
+unfoldable pub placed : Config → List Record → Art → Maybe Record
 placed c rs a =
     record_for c a (page_for c rs a.whole) (spot_on c (cells_on c rs (page_for c rs a.whole)) (size_of a.kept))

@@ -1,6 +1,6 @@
 -- Demand 3: any list of calls from a layout, the images that then stand, and the layout that the placing rule gives for them.
 -- Assumes nothing.
-use Rattle.std.specs.Prelude.{◌-◌, List, [], ◌∷◌, ◌++◌, length, replicate, take}
+use Rattle.std.specs.Prelude.{◌-◌, List, [], ◌∷◌, ◌++◌, length, replicate, take, Ok, Err}
 use Rattle.std.proofs.Math.Option.{Option, none, some}
 use Rattle.geometry.specs.declared.rect.Size.{Size}
 use Rattle.art.specs.Stores.{Stores}
@@ -12,12 +12,8 @@ use Rattle.records.specs.declared.frame.Page.{Page}
 use Rattle.records.specs.declared.frame.Record.{Record}
 use Rattle.records.specs.declared.layout.Layout.{Layout}
 use Rattle.rules.specs.Placing.{placed}
-use Rattle.rules.specs.Operations.{art_for, offered, withdrawn}
+use Rattle.rules.specs.Operations.{art_for, offered, withdrawn, Offered, Withdrawn}
 use Rattle.rules.specs.declared.placing.Art.{Art}
-use Rattle.rules.specs.declared.multi_texture_packer.Offered.{Offered}
-use Rattle.rules.specs.declared.multi_texture_packer.Offered.TheVariants.{Placed, Refused as OfferRefused}
-use Rattle.rules.specs.declared.multi_texture_packer.Withdrawn.{Withdrawn}
-use Rattle.rules.specs.declared.multi_texture_packer.Withdrawn.TheVariants.{Gone, Refused as WithdrawRefused}
 
 -- the placing rule over images in order, after the records that stand: their records, or none where one finds no place
 abbrev pub then_laid : Option Record → (Record → Option (List Record)) → Option (List Record)
@@ -55,12 +51,12 @@ step (Ask p z) l = l
 -- an offer that is answered by a place adds its image, with size and trim box as seen then; a withdrawal that is answered by a key
 -- takes the latest away
 abbrev pub added : Offered → Art → List Art → List Art
-added (Placed p f t) a images = images ++ a ∷ []
-added (OfferRefused r) a images = images
+added (Ok p) a images = images ++ a ∷ []
+added (Err r) a images = images
 
 abbrev pub lost : Withdrawn → List Art → List Art
-lost (Gone k) images = take (length images - 1) images
-lost (WithdrawRefused r) images = images
+lost (Ok k) images = take (length images - 1) images
+lost (Err r) images = images
 
 unfoldable pub stand : Call → Layout → List Art → List Art
 stand (Offer s k i) l images = added (offered l s k i).answer (art_for l.config s k i) images

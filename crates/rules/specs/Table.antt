@@ -3,7 +3,7 @@
 -- Assumes nothing.
 use Rattle.std.specs.Prelude.{ℕ, true, false, List, [], ◌∷◌, ◌++◌, map, replicate}
 use Rattle.geometry.specs.declared.spot.Turn.TheVariants.{Upright, Turned}
-use Rattle.art.specs.Stores.{Stores, lent}
+use Rattle.art.specs.Stores.{Stores, holding}
 use Rattle.art.specs.declared.memory_rgba8_texture.Store.TheVariants.{Symbols, Wording}
 use Rattle.records.specs.declared.texture_packer_config.Config.{Config}
 use Rattle.rules.specs.Story.{filled, Call, Offer, Withdraw}
@@ -122,7 +122,7 @@ order_lines =
       at 0 0 0 1 3 ∷ refused 5 ∷ refused 5 ∷ [],
     )
     ∷ (
-      record_after (plain 3 4) (Offer (lent [] (clear 3)) (key 6) (image Wording 8 1 1) ∷ []) 0,
+      record_after (plain 3 4) (Offer (holding [] (clear 3)) (key 6) (image Wording 8 1 1) ∷ []) 0,
       (6 ∷ 0 ∷ 0 ∷ 0 ∷ 1 ∷ 1 ∷ 0 ∷ 0 ∷ 0 ∷ 0 ∷ 1 ∷ 1 ∷ 1 ∷ 8 ∷ []) ∷ [],
     )
     ∷ []

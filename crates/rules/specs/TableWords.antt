@@ -4,7 +4,7 @@ use Rattle.std.specs.Prelude.{ℕ, zero, suc, Bool, true, false, cond, List, [],
 use Rattle.geometry.specs.Placing.{turn_number}
 use Rattle.geometry.specs.declared.spot.Turn.{Turn}
 use Rattle.geometry.specs.declared.spot.Turn.TheVariants.{Upright}
-use Rattle.art.specs.Stores.{Stores, lent}
+use Rattle.art.specs.Stores.{Stores, holding}
 use Rattle.art.specs.declared.memory_rgba8_texture.Image.{Image}
 use Rattle.art.specs.declared.memory_rgba8_texture.Store.{Store}
 use Rattle.art.specs.declared.memory_rgba8_texture.Store.TheVariants.{Symbols}
@@ -79,7 +79,7 @@ image store offset w h = record { store = store; offset = offset; w = w; h = h }
 
 -- every pixel of an image at the start of the symbol store can be seen; 64 pixels are there, and none in the wording store
 unfoldable pub white : Stores
-white = lent (replicate 256 255) []
+white = holding (replicate 256 255) []
 
 -- n pixels of no alpha, in white
 unfoldable pub clear : ℕ → List ℕ
@@ -92,7 +92,7 @@ shown zero = []
 shown (suc n) = 0 ∷ 0 ∷ 0 ∷ 255 ∷ shown n
 
 unfoldable pub symbols : List ℕ → Stores
-symbols bytes = lent bytes []
+symbols bytes = holding bytes []
 
 -- of 8x8 only (3, 5) is visible
 unfoldable pub dot : Stores

@@ -1,37 +1,24 @@
-// The answers of ask, offer and withdraw; where a layout goes along, a struct of both.
+// The answers of ask, offer and withdraw; where a layout goes along, it stands beside the answer.
 use geometry::rect::Rect;
 use geometry::spot::Turn;
 use records::frame::{Key, Page};
-use records::layout::Layout;
+use records::layout::Answered;
 use records::refusal::Refusal;
 
-#[derive(Clone, Copy)]
-pub enum Asked {
-    Yes,
-    No,
-    Refused(Refusal),
+// Where an offered image is placed.
+#[derive(Clone, Copy, PartialEq, Eq)]
+pub struct Place {
+    pub page: Page,
+    pub frame: Rect,
+    pub turn: Turn,
 }
 
-#[derive(Clone, Copy)]
-pub enum Offered {
-    Placed(Page, Rect, Turn),
-    Refused(Refusal),
-}
+pub type Asked = Result<bool, Refusal>;
 
-#[derive(Clone, Copy)]
-pub struct Offering {
-    pub answer: Offered,
-    pub layout: Layout,
-}
+pub type Offered = Result<Place, Refusal>;
 
-#[derive(Clone, Copy)]
-pub enum Withdrawn {
-    Gone(Key),
-    Refused(Refusal),
-}
+pub type Withdrawn = Result<Key, Refusal>;
 
-#[derive(Clone, Copy)]
-pub struct Withdrawing {
-    pub answer: Withdrawn,
-    pub layout: Layout,
-}
+pub type Offering = Answered<Offered>;
+
+pub type Withdrawing = Answered<Withdrawn>;

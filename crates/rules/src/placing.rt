@@ -3,7 +3,7 @@ use art::memory_rgba8_texture::Store;
 use geometry::rect::{Rect, Size};
 use records::frame::Key;
 
-#[derive(Clone, Copy)]
+#[derive(Clone, Copy, PartialEq, Eq)]
 pub struct Art {
     pub key: Key,
     pub store: Store,

@@ -1,4 +1,5 @@
 -- The search, as the code goes about it: two answers compared, one start tried, one segment after the other. Assumes nothing.
+use Rattle.std.specs.Prelude.{Option, Some, None}
 use Prim.Native.Nat.{ℕ, ◌+◌, ◌-◌, ◌≤◌, ◌<◌, min}
 use mathlib.Core.Path.{◌≡◌, refl, sym, ap, ◌∙◌}
 use mathlib.Core.Bool.{Bool, true, false, cond, ◌&&◌, ◌||◌}
@@ -9,8 +10,6 @@ use lib.Dec.{leb}
 use borrow.Author.Tests.{le-leb, lt-leb, le-ltb}
 use Rattle.geometry.specs.declared.rect.Size.{Size}
 use Rattle.geometry.specs.declared.spot.Spot.{Spot}
-use Rattle.geometry.specs.declared.spot.Found.{Found}
-use Rattle.geometry.specs.declared.spot.Found.TheVariants.{Nothing, At}
 use Rattle.geometry.specs.declared.spot.Turn.{Turn}
 use Rattle.geometry.specs.declared.spot.Turn.TheVariants.{Upright, Turned}
 use Rattle.geometry.specs.Words.{any, only, flat}
@@ -32,64 +31,64 @@ leb-min x a b l = go (dec_le x a)
     go (no h) = lt-leb x (min a b) (omega arith) ∙ sym (lt-leb x a (omega arith))
 
 -- a cell that ends below what was found is no better: it need not fit further down
-pub choice-lowest : (area : Size) (o : Found) (k : Spot) → 0 < k.at.h → k.bottom ≡ k.at.y + k.at.h - 1
+pub choice-lowest : (area : Size) (o : Option Spot) (k : Spot) → 0 < k.at.h → k.bottom ≡ k.at.y + k.at.h - 1
     → choice o (fitted (record { w = area.w; h = lowest area.h o }) k) ≡ choice o (fitted area k)
 unfolding lowest fitted inside choice better
-choice-lowest area Nothing k tall e = refl
-choice-lowest area (At j) k tall e = go (dec_le (k.at.y + k.at.h) (j.bottom + 1))
+choice-lowest area None k tall e = refl
+choice-lowest area (Some j) k tall e = go (dec_le (k.at.y + k.at.h) (j.bottom + 1))
   where
     across : Bool
     across = leb (k.at.x + k.at.w) area.w
 
-    later : (b : Bool) → (j.bottom < k.bottom) → choice (At j) (cond b (At k) Nothing) ≡ At j
+    later : (b : Bool) → (j.bottom < k.bottom) → choice (Some j) (cond b (Some k) None) ≡ Some j
     later true l =
         let d : (k.bottom ≡ j.bottom → ⊥) = λ q. omega arith in
         rw (sym (rank-bottom k j d), le-ltb k.bottom j.bottom (omega arith))
     later false l = refl
 
     go : Dec (k.at.y + k.at.h ≤ j.bottom + 1)
-        → choice (At j) (cond (across && leb (k.at.y + k.at.h) (min area.h (j.bottom + 1))) (At k) Nothing)
-        ≡ choice (At j) (cond (across && leb (k.at.y + k.at.h) area.h) (At k) Nothing)
-    go (yes l) = ap (λ (b : Bool). choice (At j) (cond (across && b) (At k) Nothing)) (leb-min (k.at.y + k.at.h) area.h (j.bottom + 1) l)
+        → choice (Some j) (cond (across && leb (k.at.y + k.at.h) (min area.h (j.bottom + 1))) (Some k) None)
+        ≡ choice (Some j) (cond (across && leb (k.at.y + k.at.h) area.h) (Some k) None)
+    go (yes l) = ap (λ (b : Bool). choice (Some j) (cond (across && b) (Some k) None)) (leb-min (k.at.y + k.at.h) area.h (j.bottom + 1) l)
     go (no h) =
         let low = lt-leb (k.at.y + k.at.h) (min area.h (j.bottom + 1)) (omega arith) in
-        ap (λ (b : Bool). choice (At j) (cond b (At k) Nothing)) (and_no_right across _ low)
+        ap (λ (b : Bool). choice (Some j) (cond b (Some k) None)) (and_no_right across _ low)
         ∙ sym (later (across && leb (k.at.y + k.at.h) area.h) (omega arith))
 
 -- what was found stays found
-stays_found : (o : Found) (l : List Spot) → is_found o ≡ true → is_found (best_of rank o l) ≡ true
-stays_found Nothing l e = let z : ◌≡◌ {A = ℕ} 0 1 = cc in absurd (omega arith)
-stays_found (At k) l e = ap is_found (best_some rank k l).1
+stays_found : (o : Option Spot) (l : List Spot) → is_found o ≡ true → is_found (best_of rank o l) ≡ true
+stays_found None l e = let z : ◌≡◌ {A = ℕ} 0 1 = cc in absurd (omega arith)
+stays_found (Some k) l e = ap is_found (best_some rank k l).1
 
 -- what found nothing leaves the choice to the rest
-not_found : (o : Found) (l : List Spot) → is_found o ≡ false → best_of rank o l ≡ best_of rank Nothing l
-not_found Nothing l e = refl
-not_found (At k) l e = let z : ◌≡◌ {A = ℕ} 0 1 = cc in absurd (omega arith)
+not_found : (o : Option Spot) (l : List Spot) → is_found o ≡ false → best_of rank o l ≡ best_of rank None l
+not_found None l e = refl
+not_found (Some k) l e = let z : ◌≡◌ {A = ℕ} 0 1 = cc in absurd (omega arith)
 
 -- the best of what fits, one more tried
-best_one : (area : Size) (o : Found) (k : Spot) (l : List Spot)
+best_one : (area : Size) (o : Option Spot) (k : Spot) (l : List Spot)
     → best_of rank o (only (λ (j : Spot). inside area j.at) (k ∷ l)) ≡ best_of rank (choice o (fitted area k)) (only (λ (j : Spot). inside area j.at) l)
 unfolding best_of only choice fitted
 best_one area o k l = go (inside area k.at)
   where
     go : (b : Bool) → best_of rank o (cond b (k ∷ only (λ (j : Spot). inside area j.at) l) (only (λ (j : Spot). inside area j.at) l))
-        ≡ best_of rank (choice o (cond b (At k) Nothing)) (only (λ (j : Spot). inside area j.at) l)
+        ≡ best_of rank (choice o (cond b (Some k) None)) (only (λ (j : Spot). inside area j.at) l)
     go true = refl
     go false = refl
 
-best_end : (area : Size) (o : Found) → best_of rank o (only (λ (j : Spot). inside area j.at) []) ≡ o
+best_end : (area : Size) (o : Option Spot) → best_of rank o (only (λ (j : Spot). inside area j.at) []) ≡ o
 unfolding best_of only
 best_end area o = refl
 
 -- ## one start, in some orientations
 
-unfitted : (area : Size) (k : Spot) → inside area k.at ≡ false → fitted area k ≡ Nothing
+unfitted : (area : Size) (k : Spot) → inside area k.at ≡ false → fitted area k ≡ None
 unfolding fitted
 unfitted area k e = rw e
 
 -- there is a best exactly if one fits
 any_found : (area : Size) (g : Turn → Spot) (ts : List Turn)
-    → is_found (best_of rank Nothing (only (λ (k : Spot). inside area k.at) (map g ts))) ≡ any (λ t. inside area (g t).at) ts
+    → is_found (best_of rank None (only (λ (k : Spot). inside area k.at) (map g ts))) ≡ any (λ t. inside area (g t).at) ts
 unfolding any only best_of better
 any_found area g [] = refl
 any_found area g (t ∷ ts) = go (inside area (g t).at) (any_found area g ts)
@@ -97,9 +96,9 @@ any_found area g (t ∷ ts) = go (inside area (g t).at) (any_found area g ts)
     rest : List Spot
     rest = only (λ (k : Spot). inside area k.at) (map g ts)
 
-    go : (b : Bool) → is_found (best_of rank Nothing rest) ≡ any (λ u. inside area (g u).at) ts
-        → is_found (best_of rank Nothing (cond b (g t ∷ rest) rest)) ≡ (b || any (λ u. inside area (g u).at) ts)
-    go true ih = stays_found (At (g t)) rest refl
+    go : (b : Bool) → is_found (best_of rank None rest) ≡ any (λ u. inside area (g u).at) ts
+        → is_found (best_of rank None (cond b (g t ∷ rest) rest)) ≡ (b || any (λ u. inside area (g u).at) ts)
+    go true ih = stays_found (Some (g t)) rest refl
     go false ih = ih
 
 -- the area as far down as what was found leaves it
@@ -107,7 +106,7 @@ abbrev cut : Size → ℕ → Size
 cut area l = record { w = area.w; h = l }
 
 -- none that fits there is no better
-none-better : (area : Size) (o : Found) (l : ℕ) (g : Turn → Spot) (ts : List Turn) → l ≡ lowest area.h o
+none-better : (area : Size) (o : Option Spot) (l : ℕ) (g : Turn → Spot) (ts : List Turn) → l ≡ lowest area.h o
     → ((t : Turn) → 0 < (g t).at.h) → ((t : Turn) → (g t).bottom ≡ (g t).at.y + (g t).at.h - 1)
     → any (λ t. inside (cut area l) (g t).at) ts ≡ false → best_of rank o (only (λ (k : Spot). inside area k.at) (map g ts)) ≡ o
 unfolding any choice
@@ -118,47 +117,47 @@ none-better area o l g (t ∷ ts) el tall ends e =
     sym (choice-lowest area o (g t) (tall t) (ends t)) ∙ ap (λ (m : ℕ). choice o (fitted (cut area m) (g t))) (sym el)
     ∙ ap (choice o) (unfitted (cut area l) (g t) out) in
     best_one area o (g t) (map g ts)
-    ∙ ap (λ (q : Found). best_of rank q (only (λ (k : Spot). inside area k.at) (map g ts))) same
+    ∙ ap (λ (q : Option Spot). best_of rank q (only (λ (k : Spot). inside area k.at) (map g ts))) same
     ∙ none-better area o l g ts el tall ends (or_no_right (inside (cut area l) (g t).at) (any (λ u. inside (cut area l) (g u).at) ts) e)
 
 module _ (f : ℕ → ℕ) (area : Size) (rotation : Bool) (cell : Size) (s : ℕ) where
-  pub try_upright : (o a p : Found) → rotation ≡ false → a ≡ fitted area (spot_at f area.w Upright cell s) → p ≡ choice o a
+  pub try_upright : (o a p : Option Spot) → rotation ≡ false → a ≡ fitted area (spot_at f area.w Upright cell s) → p ≡ choice o a
       → p ≡ best_of rank o (fitting_at f area rotation cell s)
   unfolding fitting_at orientations lying
   try_upright o a p t ea ep =
       let up = spot_at f area.w Upright cell s in
       rw t (ep ∙ ap (choice o) ea ∙ sym (best_end area (choice o (fitted area up))) ∙ sym (best_one area o up []))
 
-  pub try_turned : (o a p b r : Found) → rotation ≡ true → a ≡ fitted area (spot_at f area.w Upright cell s) → p ≡ choice o a
+  pub try_turned : (o a p b r : Option Spot) → rotation ≡ true → a ≡ fitted area (spot_at f area.w Upright cell s) → p ≡ choice o a
       → b ≡ fitted area (spot_at f area.w Turned (record { w = cell.h; h = cell.w }) s) → r ≡ choice p b
       → r ≡ best_of rank o (fitting_at f area rotation cell s)
   unfolding fitting_at orientations lying
   try_turned o a p b r t ea ep eb er =
       let up = spot_at f area.w Upright cell s in
       let side = spot_at f area.w Turned (record { w = cell.h; h = cell.w }) s in
-      rw t (er ∙ ap (choice p) eb ∙ ap (λ (q : Found). choice q (fitted area side)) (ep ∙ ap (choice o) ea)
+      rw t (er ∙ ap (choice p) eb ∙ ap (λ (q : Option Spot). choice q (fitted area side)) (ep ∙ ap (choice o) ea)
       ∙ sym (best_end area (choice (choice o (fitted area up)) (fitted area side)))
       ∙ sym (best_one area (choice o (fitted area up)) side [])
       ∙ sym (best_one area o up (side ∷ [])))
 
   -- a start with nothing that ends as far up as what was found changes nothing
-  pub try_none : (o : Found) (l : ℕ) → HasPixels cell → l ≡ lowest area.h o
+  pub try_none : (o : Option Spot) (l : ℕ) → HasPixels cell → l ≡ lowest area.h o
       → any (λ t. inside (cut area l) (cell_at f (lying t cell) s)) (orientations rotation) ≡ false → o ≡ best_of rank o (fitting_at f area rotation cell s)
   unfolding fitting_at spot_at cell_at
   try_none o l some el e =
       sym (none-better area o l (λ t. spot_at f area.w t (lying t cell) s) (orientations rotation) el (λ t. (lying-pixels t cell some).tall) (λ t. refl) e)
 
-  start-found : is_found (best_of rank Nothing (fitting_at f area rotation cell s)) ≡ any (λ t. inside area (cell_at f (lying t cell) s)) (orientations rotation)
+  start-found : is_found (best_of rank None (fitting_at f area rotation cell s)) ≡ any (λ t. inside area (cell_at f (lying t cell) s)) (orientations rotation)
   unfolding fitting_at spot_at
   start-found = any_found area (λ t. spot_at f area.w t (lying t cell) s) (orientations rotation)
 
   -- the first start where the cell fits decides whether there is a spot
   pub start_decides : (l : List Spot) → true ≡ any (λ t. inside area (cell_at f (lying t cell) s)) (orientations rotation)
-      → true ≡ is_found (best_of rank (best_of rank Nothing (fitting_at f area rotation cell s)) l)
+      → true ≡ is_found (best_of rank (best_of rank None (fitting_at f area rotation cell s)) l)
   start_decides l e = sym (stays_found _ l (start-found ∙ sym e))
 
   pub start-leaves : (l : List Spot) → false ≡ any (λ t. inside area (cell_at f (lying t cell) s)) (orientations rotation)
-      → best_of rank Nothing l ≡ best_of rank (best_of rank Nothing (fitting_at f area rotation cell s)) l
+      → best_of rank None l ≡ best_of rank (best_of rank None (fitting_at f area rotation cell s)) l
   start-leaves l e = sym (not_found _ l (start-found ∙ sym e))
 
 -- one of the allowed orientations passes a test
@@ -209,42 +208,42 @@ module _ (f : ℕ → ℕ) (area : Size) (size : Size) (s : ℕ) where
           go (yes q) = le-leb x (z - y) q ∙ sym (le-leb (x + y) z (omega arith))
           go (no q) = lt-leb x (z - y) (omega arith) ∙ sym (lt-leb (x + y) z (omega arith))
 
-  pub not-put : (turn : Turn) → false ≡ inside area (cell_at f size s) → Nothing ≡ fitted area (spot_at f area.w turn size s)
+  pub not-put : (turn : Turn) → false ≡ inside area (cell_at f size s) → None ≡ fitted area (spot_at f area.w turn size s)
   unfolding spot_at
   not-put turn e = sym (unfitted area (spot_at f area.w turn size s) (sym e))
 
   pub put_low : (turn : Turn) (y k : ℕ) → y ≡ top f s k → k ≡ size.w → s + size.w ≤ area.w → size.h ≤ area.h → area.h - size.h < y
-      → Nothing ≡ fitted area (spot_at f area.w turn size s)
+      → None ≡ fitted area (spot_at f area.w turn size s)
   put_low turn y k p e l m h =
       let q = ap (top f s) e in
       not-put turn (sym (lt-leb (top f s k) (area.h - size.h) (omega arith)) ∙ inside_under k e l m)
 
   pub put-here : (turn : Turn) (y k b g : ℕ) → s + size.w ≤ area.w → y ≡ top f s k → k ≡ size.w → y + size.h ≤ area.h → b ≡ y + size.h - 1 → segment f area.w s ≡ g
-      → At (record { at = record { x = s; y = y; w = size.w; h = size.h }; bottom = b; segment = g; turn = turn }) ≡ fitted area (spot_at f area.w turn size s)
+      → Some (record { at = record { x = s; y = y; w = size.w; h = size.h }; bottom = b; segment = g; turn = turn }) ≡ fitted area (spot_at f area.w turn size s)
   unfolding fitted inside spot_at cell_at
   put-here turn y k b g l p e m u r =
       let q : y ≡ top f s size.w = p ∙ ap (top f s) e in
       let t : top f s size.w + size.h ≤ area.h = omega arith in
       let v : b ≡ top f s size.w + size.h - 1 = omega arith in
-      simp (le-leb _ _ l, le-leb _ _ t) (λ i. At (record { at = record { x = s; y = q i; w = size.w; h = size.h }; bottom = v i; segment = sym r i; turn = turn }))
+      simp (le-leb _ _ l, le-leb _ _ t) (λ i. Some (record { at = record { x = s; y = q i; w = size.w; h = size.h }; bottom = v i; segment = sym r i; turn = turn }))
 
 -- ## the search, a segment at a time
 
 module _ (f : ℕ → ℕ) (area : Size) (rotation : Bool) (cell : Size) where
-  pub search_start : (a : ℕ) → a ≡ 0 → best_of rank Nothing (candidates_from f area rotation cell a) ≡ spot_for f area rotation cell
+  pub search_start : (a : ℕ) → a ≡ 0 → best_of rank None (candidates_from f area rotation cell a) ≡ spot_for f area rotation cell
   unfolding spot_for
-  search_start a e = ap (λ (j : ℕ). best_of rank Nothing (candidates_from f area rotation cell j)) e
+  search_start a e = ap (λ (j : ℕ). best_of rank None (candidates_from f area rotation cell j)) e
 
   -- a segment: its start is tried, and its other columns are not
-  pub search_segment : (o p : Found) (a b : ℕ) → a < b → b ≤ area.w → is_start f a ≡ true → ((c : ℕ) → a < c → c < b → is_start f c ≡ false)
+  pub search_segment : (o p : Option Spot) (a b : ℕ) → a < b → b ≤ area.w → is_start f a ≡ true → ((c : ℕ) → a < c → c < b → is_start f c ≡ false)
       → p ≡ best_of rank o (fitting_at f area rotation cell a)
       → best_of rank p (candidates_from f area rotation cell b) ≡ best_of rank o (candidates_from f area rotation cell a)
   unfolding candidates_from flat
   search_segment o p a b l m y h e =
-      ap (λ (q : Found). best_of rank q (flat (fitting_at f area rotation cell) (starts_from f area.w b))) e
+      ap (λ (q : Option Spot). best_of rank q (flat (fitting_at f area rotation cell) (starts_from f area.w b))) e
       ∙ sym (ap (λ (ss : List ℕ). best_of rank o (flat (fitting_at f area rotation cell) ss)) (starts_run f area.w a b l m y h)
       ∙ best_append rank o (fitting_at f area rotation cell a) (flat (fitting_at f area rotation cell) (starts_from f area.w b)))
 
-  pub search_end : (o : Found) (a : ℕ) → a ≡ area.w → best_of rank o (candidates_from f area rotation cell a) ≡ o
+  pub search_end : (o : Option Spot) (a : ℕ) → a ≡ area.w → best_of rank o (candidates_from f area rotation cell a) ≡ o
   unfolding candidates_from flat best_of
   search_end o a e = ap (λ (ss : List ℕ). best_of rank o (flat (fitting_at f area rotation cell) ss)) (starts_end f area.w a e)

@@ -1,4 +1,6 @@
 -- A skyline that stands for some heights: its segments are the starts and segments of the rule. Assumes nothing.
+use Rattle.std.specs.Prelude.{Option}
+use Rattle.geometry.specs.declared.spot.Spot.{Spot}
 use Prim.Native.Nat.{ℕ, zero, suc, ◌+◌, ◌-◌, ◌≤◌, ◌<◌, max, min}
 use mathlib.Core.Path.{◌≡◌, sym, ap, ◌∙◌}
 use mathlib.Core.Bool.{Bool, true, false}
@@ -10,7 +12,6 @@ use native.Mathlib.Decide.{ℕ_discrete, dec_lt}
 use lib.ListN.{length, get_or, set, length-set}
 use lib.Seq.{get_or-set_same, get_or-set_other}
 use Rattle.geometry.specs.declared.rect.Size.{Size}
-use Rattle.geometry.specs.declared.spot.Found.{Found}
 use Rattle.geometry.specs.Placing.{is_start, segment, top, fitting_at, candidates_from, rank, best_of}
 use Rattle.skyline.specs.Skyline.{Shape, Level, Starts, Holds}
 use Rattle.geometry.proofs.Heights.{no_height, top-level, top_bound, start-zero, start_yes, start_no, segment-is}
@@ -77,7 +78,7 @@ module _ (W : ℕ) (xs ys : List ℕ) (n : ℕ) (sh : Shape W xs ys n) where
         let b = top_bound f (e - s) s (get_or xs j 0) sj (omega arith) in
         omega arith
 
-    pub search_next : (area : Size) (rotation : Bool) (cell : Size) (o p : Found) (i : ℕ) → area.w ≡ W → i < n
+    pub search_next : (area : Size) (rotation : Bool) (cell : Size) (o p : Option Spot) (i : ℕ) → area.w ≡ W → i < n
         → p ≡ best_of rank o (fitting_at f area rotation cell (get_or xs i 0))
         → best_of rank p (candidates_from f area rotation cell (get_or xs (i + 1) 0)) ≡ best_of rank o (candidates_from f area rotation cell (get_or xs i 0))
     search_next area rotation cell o p i w l e =

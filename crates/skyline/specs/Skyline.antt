@@ -1,18 +1,16 @@
 -- The skyline as the code keeps it: n segments, of which segment i has the columns from xs i up to xs (i + 1) and the height ys i.
 -- Assumes nothing.
-use Rattle.std.specs.Prelude.{ℕ, ◌+◌, ◌≤◌, ◌<◌, max, ◌≡◌, Bool, cond, List, length, get_or}
+use Rattle.std.specs.Prelude.{ℕ, ◌+◌, ◌≤◌, ◌<◌, max, ◌≡◌, Bool, cond, List, length, get_or, Option, Some, None}
 use Rattle.geometry.specs.Placing.{height, spot_for, inside, grown}
 use Rattle.geometry.specs.Fits.{Lifted}
 use Rattle.geometry.specs.declared.rect.Rect.{Rect}
 use Rattle.geometry.specs.declared.rect.Size.{Size}
 use Rattle.geometry.specs.declared.spot.Spot.{Spot}
-use Rattle.geometry.specs.declared.spot.Found.{Found}
-use Rattle.geometry.specs.declared.spot.Found.TheVariants.{Nothing, At}
 use Rattle.skyline.specs.declared.skyline_packer.Packed.{Packed}
 
 -- the spot, if it fits
-unfoldable pub fitted : Size → Spot → Found
-fitted area k = cond (inside area k.at) (At k) Nothing
+unfoldable pub fitted : Size → Spot → Option Spot
+fitted area k = cond (inside area k.at) (Some k) None
 
 -- the segments follow each other from column 0 to column e, none is empty, and neighbours differ in height
 pub record Shape (e : ℕ) (xs ys : List ℕ) (n : ℕ) : Type 0 where

@@ -11,7 +11,7 @@ ghost use Rattle.geometry.specs.declared.rect.Rect.{Rect};
 use crate::skyline;
 use geometry::rect::{Rect, Size};
 use geometry::spot;
-use geometry::spot::{Found, Spot, Turn};
+use geometry::spot::{Spot, Turn};
 
 // Whether no column from segment i's start up to column e is higher than `most`.
 fn stays_under<'a>(
@@ -115,7 +115,7 @@ fn can_put<'a>(
     area: Size,
     turn: Turn,
     size: Size,
-) -> Found
+) -> Option<Spot>
     requires shape { Shape area.w xs.now ys.now n }
     requires i_lt_n { (i < n) × (0 < size.h) }
     ensures { (f : ℕ → ℕ) → Level f xs.now ys.now n →
@@ -127,17 +127,17 @@ fn can_put<'a>(
     let w = size.w;
     let h = size.h;
     if cw - s < w {
-        return Found::Nothing;
+        return None;
     }
     if ch < h {
-        return Found::Nothing;
+        return None;
     }
     let y = top_of(xs, ys, n, i, cw, s + w);
     if ch - h < y {
-        return Found::Nothing;
+        return None;
     }
     let at = Rect { x: s, y, w, h };
-    Found::At(Spot {
+    Some(Spot {
         at,
         bottom: y + h - 1,
         segment: xs[i + 1] - s,
@@ -154,8 +154,8 @@ fn try_at<'a>(
     area: Size,
     rotation: bool,
     cell: Size,
-    found: Found,
-) -> Found
+    found: Option<Spot>,
+) -> Option<Spot>
     requires shape { Shape area.w xs.now ys.now n }
     requires i_lt_n { (i < n) × HasPixels cell }
     ensures { (f : ℕ → ℕ) → Level f xs.now ys.now n →
@@ -183,11 +183,11 @@ pub fn find_skyline<'a>(
     area: Size,
     rotation: bool,
     cell: Size,
-) -> Found
+) -> Option<Spot>
     requires { Shape area.w xs.now ys.now n × HasPixels cell }
     ensures { (f : ℕ → ℕ) → Level f xs.now ys.now n → result ≡ spot_for f area rotation cell }
 {
-    let mut found = Found::Nothing;
+    let mut found = None;
     let mut low = area.h;
     let mut i = 0;
     while i < n {
@@ -226,7 +226,7 @@ pub fn can_pack<'a>(
 // What was found, and the number of segments that the skyline then has.
 #[derive(Clone, Copy)]
 pub struct Packed {
-    pub found: Found,
+    pub found: Option<Spot>,
     pub n: usize,
 }
 
@@ -256,8 +256,8 @@ pub fn pack(
 {
     let found = find_skyline(xs, ys, n, area, rotation, cell);
     match found {
-        Found::Nothing => Packed { found, n },
-        Found::At(k) => {
+        None => Packed { found, n },
+        Some(k) => {
             let at = k.at;
             let m = skyline::split_and_merge(xs, ys, n, area.w, at.x, at.x + at.w, at.y + at.h);
             Packed { found, n: m }

@@ -1,11 +1,11 @@
 -- Laws of bytes that are written over others. Assumes nothing.
-use Prim.Native.Nat.{ℕ, suc, ◌+◌, ◌-◌, ◌*◌, ◌/◌, ◌%◌, ◌≤◌, ◌<◌}
+use Prim.Native.Nat.{ℕ, ◌+◌, ◌-◌, ◌*◌, ◌≤◌, ◌<◌}
 use native.Mathlib.Numerals.{add-one}
 use native.Mathlib.Omega.{arith}
 use mathlib.Core.List.{List, [], ◌∷◌, ◌++◌, append_assoc, append-nil}
 use mathlib.Core.Path.{◌≡◌, refl, sym, ap, ◌∙◌}
-use lib.ListN.{length, get_or, set, take, drop, length-append, length-drop, take-append-drop}
-use lib.Seq.{sets-eq, paste, take-suc, take_at, drop_at, take-length, take-take, take-append-le, length-take-le, drop-drop}
+use lib.ListN.{length, get_or, take, drop, length-append, length-drop, take-append-drop}
+use lib.Seq.{take-suc, take_at, drop_at, take-take, take-append-le, length-take-le, drop-drop}
 use borrow.Rule.Slice.PartMut.{put_mid}
 use Rattle.wire.specs.Bytes.{word_bytes, words_bytes, put}
 
@@ -110,23 +110,6 @@ put_front old at a b h =
     ∙ sym (append_assoc (take at old ++ a) b rest)
     ∙ ap (λ (z : List ℕ). z ++ rest) (append_assoc (take at old) a b)
     ∙ ap (λ (k : ℕ). take at old ++ (a ++ b) ++ drop k old) e
-
-pub four_sets : (l : List ℕ) (at n : ℕ) → at + 4 ≤ length l
-    → set (set (set (set l at (n % 256)) (at + 1) (n / 256 % 256)) (at + 2) (n / 65536 % 256)) (at + 3) (n / 16777216) ≡ put l at (word_bytes n)
-unfolding put word_bytes
-four_sets l at n h =
-    let a : at + 1 ≡ suc at = add-one at in
-    let b : at + 2 ≡ suc (suc at) = omega arith in
-    let c : at + 3 ≡ suc (suc (suc at)) = omega arith in
-    ap (λ (k : ℕ). set (set (set (set l at (n % 256)) k (n / 256 % 256)) (at + 2) (n / 65536 % 256)) (at + 3) (n / 16777216)) a
-    ∙ ap (λ (k : ℕ). set (set (set (set l at (n % 256)) (suc at) (n / 256 % 256)) k (n / 65536 % 256)) (at + 3) (n / 16777216)) b
-    ∙ ap (λ (k : ℕ). set (set (set (set l at (n % 256)) (suc at) (n / 256 % 256)) (suc (suc at)) (n / 65536 % 256)) k (n / 16777216)) c
-    ∙ sets-eq (n % 256 ∷ n / 256 % 256 ∷ n / 65536 % 256 ∷ n / 16777216 ∷ []) l at h
-
--- a copy of a whole list
-pub paste-put : (old : List ℕ) (at : ℕ) (a : List ℕ) → paste old at a (length a) ≡ put old at a
-unfolding put
-paste-put old at a = ap (λ (z : List ℕ). take at old ++ z ++ drop (at + length a) old) (take-length a)
 
 -- a part that is lent and comes back
 pub lent-put : (a e : ℕ) (l v : List ℕ) → a ≤ e → e ≤ length l → length v ≡ e - a → put_mid a (e - a) l v ≡ put l a v

@@ -1,5 +1,5 @@
 // The answer of each operation as words: its number and values, as the operation's own definition gives them.
-ghost use Rattle.std.specs.Prelude.{◌≡◌, [], ◌∷◌};
+ghost use Rattle.std.specs.Prelude.{◌≡◌, ◌≤◌, [], ◌∷◌};
 ghost use Rattle.std.specs.Float.{binary32};
 ghost use Rattle.std.specs.Float.Ieee.{to_bits};
 ghost use Rattle.records.specs.Refusals.{number_of};
@@ -30,30 +30,29 @@ pub struct Answer {
     pub words: [u32; 8],
 }
 
-fn refused(r: Refusal) -> Answer
-    ensures { Says (number_of r ∷ []) result }
+fn said<const N: usize>(words: [u32; N]) -> Answer
+    requires { N ≤ 8 }
+    ensures { Says words.entry result }
 {
-    let n = refusal::number_of(r);
+    let mut all = [0; 8];
+    all[..N].copy_from_slice(&words);
     Answer {
-        count: 1,
-        words: [n, 0, 0, 0, 0, 0, 0, 0],
+        count: N,
+        words: all,
     }
 }
 
-fn done() -> Answer
-    ensures { Says (0 ∷ []) result }
+fn refused(r: Refusal) -> Answer
+    ensures { Says (number_of r ∷ []) result }
 {
-    Answer {
-        count: 1,
-        words: [0, 0, 0, 0, 0, 0, 0, 0],
-    }
+    said([refusal::number_of(r)])
 }
 
 pub fn opened(o: Opened) -> Answer
     ensures { Says (opened_numbers o) result }
 {
     match o {
-        Opened::Done => done(),
+        Opened::Done => said([0]),
         Opened::Refused(r) => refused(r),
     }
 }
@@ -62,14 +61,8 @@ pub fn asked(o: Asked) -> Answer
     ensures { Says (asked_numbers o) result }
 {
     match o {
-        Asked::Yes => Answer {
-            count: 2,
-            words: [0, 1, 0, 0, 0, 0, 0, 0],
-        },
-        Asked::No => Answer {
-            count: 2,
-            words: [0, 0, 0, 0, 0, 0, 0, 0],
-        },
+        Asked::Yes => said([0, 1]),
+        Asked::No => said([0, 0]),
         Asked::Refused(r) => refused(r),
     }
 }
@@ -80,10 +73,7 @@ pub fn offered(o: Offered) -> Answer
     match o {
         Offered::Placed(p, f, t) => {
             let turn = spot::turn_number(t);
-            Answer {
-                count: 7,
-                words: [0, p.0, f.x, f.y, f.w, f.h, turn, 0],
-            }
+            said([0, p.0, f.x, f.y, f.w, f.h, turn])
         }
         Offered::Refused(r) => refused(r),
     }
@@ -93,10 +83,7 @@ pub fn withdrawn(o: Withdrawn) -> Answer
     ensures { Says (withdrawn_numbers o) result }
 {
     match o {
-        Withdrawn::Gone(k) => Answer {
-            count: 2,
-            words: [0, k.0, 0, 0, 0, 0, 0, 0],
-        },
+        Withdrawn::Gone(k) => said([0, k.0]),
         Withdrawn::Refused(r) => refused(r),
     }
 }
@@ -105,10 +92,7 @@ pub fn sized(o: Sized) -> Answer
     ensures { Says (sized_numbers o) result }
 {
     match o {
-        Sized::Is(s) => Answer {
-            count: 3,
-            words: [0, s.w, s.h, 0, 0, 0, 0, 0],
-        },
+        Sized::Is(s) => said([0, s.w, s.h]),
         Sized::Refused(r) => refused(r),
     }
 }
@@ -117,14 +101,8 @@ pub fn looked(o: Looked) -> Answer
     ensures { Says (looked_numbers o) result }
 {
     match o {
-        Looked::Shows(k) => Answer {
-            count: 6,
-            words: [0, 1, k.r as u32, k.g as u32, k.b as u32, k.a as u32, 0, 0],
-        },
-        Looked::NoPixel => Answer {
-            count: 2,
-            words: [0, 0, 0, 0, 0, 0, 0, 0],
-        },
+        Looked::Shows(k) => said([0, 1, k.r as u32, k.g as u32, k.b as u32, k.a as u32]),
+        Looked::NoPixel => said([0, 0]),
         Looked::Refused(r) => refused(r),
     }
 }
@@ -142,11 +120,8 @@ pub fn checked(o: Checked) -> Answer
     ensures { Says (checked_numbers o) result }
 {
     match o {
-        Checked::Same => done(),
-        Checked::Differs(x, y) => Answer {
-            count: 3,
-            words: [0, x, y, 0, 0, 0, 0, 0],
-        },
+        Checked::Same => said([0]),
+        Checked::Differs(x, y) => said([0, x, y]),
         Checked::Refused(r) => refused(r),
     }
 }
@@ -174,19 +149,13 @@ pub fn located(o: Located) -> Answer
     ensures { Says (located_numbers o) result }
 {
     match o {
-        Located::Pixels(f) => Answer {
-            count: 6,
-            words: [0, 0, f.x, f.y, f.w, f.h, 0, 0],
-        },
+        Located::Pixels(f) => said([0, 0, f.x, f.y, f.w, f.h]),
         Located::Texels(c) => {
             let left = bits_of(c.left);
             let top = bits_of(c.top);
             let right = bits_of(c.right);
             let bottom = bits_of(c.bottom);
-            Answer {
-                count: 6,
-                words: [0, 1, left, top, right, bottom, 0, 0],
-            }
+            said([0, 1, left, top, right, bottom])
         }
         Located::Refused(r) => refused(r),
     }

@@ -31,29 +31,11 @@ fn turn_of(n: u32) -> Turn
     if n == 0 { Turn::Upright } else { Turn::Turned }
 }
 
-// The number where `field` is the one asked for, else the old one.
-fn pick(field: u32, is: u32, n: u32, old: u32) -> u32
-    ensures { result ≡ picked field is n old }
+// `new` where `field` is the one asked for, else the old one.
+fn pick<A: Copy>(field: u32, is: u32, new: A, old: A) -> A
+    ensures { result ≡ picked field is new old }
 {
-    if field == is { n } else { old }
-}
-
-fn pick_switch(field: u32, is: u32, n: u32, old: bool) -> bool
-    ensures { result ≡ picked field is (is_on n) old }
-{
-    if field == is { is_on(n) } else { old }
-}
-
-fn pick_turn(field: u32, is: u32, n: u32, old: Turn) -> Turn
-    ensures { result ≡ picked field is (turn_of n) old }
-{
-    if field == is { turn_of(n) } else { old }
-}
-
-fn pick_store(field: u32, is: u32, n: u32, old: Store) -> Store
-    ensures { result ≡ picked field is (store_of n) old }
-{
-    if field == is { store_of(n) } else { old }
+    if field == is { new } else { old }
 }
 
 fn config_with(c: Config, field: u32, n: u32) -> Config
@@ -67,10 +49,10 @@ fn config_with(c: Config, field: u32, n: u32) -> Config
         extrusion: pick(field, 4, n, c.extrusion),
         pages: pick(field, 5, n, c.pages),
         images: pick(field, 6, n, c.images),
-        rotation: pick_switch(field, 7, n, c.rotation),
-        trim: pick_switch(field, 8, n, c.trim),
-        outlines: pick_switch(field, 9, n, c.outlines),
-        forced: pick_switch(field, 10, n, c.forced),
+        rotation: pick(field, 7, is_on(n), c.rotation),
+        trim: pick(field, 8, is_on(n), c.trim),
+        outlines: pick(field, 9, is_on(n), c.outlines),
+        forced: pick(field, 10, is_on(n), c.forced),
     }
 }
 
@@ -102,12 +84,10 @@ fn record_with(r: Record, field: u32, n: u32) -> Record
     let key = Key(pick(field, 16, n, r.key.0));
     let page = Page(pick(field, 17, n, r.page.0));
     let frame = frame_with(r.frame, field, n);
-    let t = r.turn;
-    let turn = pick_turn(field, 22, n, t);
-    let trimmed = pick_switch(field, 23, n, r.trimmed);
+    let turn = pick(field, 22, turn_of(n), r.turn);
+    let trimmed = pick(field, 23, is_on(n), r.trimmed);
     let source = source_with(r.source, field, n);
-    let s = r.store;
-    let store = pick_store(field, 28, n, s);
+    let store = pick(field, 28, store_of(n), r.store);
     Record {
         key,
         page,
@@ -132,17 +112,13 @@ pub fn layout_with(l: Layout, field: u32, place: u32, n: u32) -> Layout
     ensures { result ≡ layout_with l field place n }
 {
     let mut out = l;
-    if field < 11 {
-        let c = config_with(l.config, field, n);
-        out.config = c;
-        return out;
+    match field {
+        0..11 => out.config = config_with(l.config, field, n),
+        11 => out.count = n as usize,
+        _ => {
+            let at = (place % 256) as usize;
+            out.records[at] = record_with(l.records[at], field, n);
+        }
     }
-    if field == 11 {
-        out.count = n as usize;
-        return out;
-    }
-    let at = (place % 256) as usize;
-    let r = l.records[at];
-    out.records[at] = record_with(r, field, n);
     out
 }

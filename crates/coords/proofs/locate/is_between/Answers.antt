@@ -1,9 +1,10 @@
-use mathlib.Core.Path.{refl}
+use mathlib.Core.Path.{◌∙◌}
 use lib.Ieee.{of_bits}
-use Rattle.coords.specs.Coordinates.{between}
+use Rattle.coords.specs.Coordinates.{nought, half, between}
+use Rattle.coords.proofs.Between.{both_ends_in}
 use Rattle.coords.proofs.locate.is_between.Goals as goal
 
--- `is_between` asks both ends; its constants are 0 and one half. Assumes nothing.
+-- Its constants are 0 and one half.
 pub returns : goal.returns
 unfolding between of_bits
-returns c = refl
+returns c = c.contains.ensures.value ∙ both_ends_in nought half c.args.i c.new.ensures.start c.new.ensures.end c.new.ensures.exhausted

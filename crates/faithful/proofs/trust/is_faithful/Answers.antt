@@ -1,13 +1,15 @@
-use Rattle.faithful.proofs.Trusting.{test_keys, test_whole, test_all}
+use mathlib.Core.Path.{sym, ◌∙◌}
+use Rattle.faithful.proofs.Trusting.{unlike_keys, unlike_boxes, test_none, test_all}
+use Rattle.faithful.proofs.trust.is_faithful.Goals.{then-not-keys_differ-via-then-not-keys_differ, then-not-keys_differ-via-else-not-keys_differ+then-not-all_whole}
 use Rattle.faithful.proofs.trust.is_faithful.Goals as goal
 
 pub returns-then-not-keys_differ : goal.returns-then-not-keys_differ
-returns-then-not-keys_differ c = test_keys _ _ _ _ _ c.keys_differ.ensures c.if-not-keys_differ.true
-
-pub returns-then-not-all_whole : goal.returns-then-not-all_whole
-returns-then-not-all_whole c = test_whole _ _ _ _ _ c.all_whole.ensures c.if-not-all_whole.true
+returns-then-not-keys_differ c =
+    test_none c.args.l _ _ _
+    (elim c.then-not-keys_differ.branch [
+      | then-not-keys_differ-via-then-not-keys_differ w ↦ unlike_keys c.args.l (sym c.keys_differ.ensures ∙ w.if-not-keys_differ.true)
+      | then-not-keys_differ-via-else-not-keys_differ+then-not-all_whole w ↦ unlike_boxes c.args.l (sym w.all_whole.ensures ∙ w.if-not-all_whole.true)
+    ])
 
 pub returns : goal.returns
-returns c =
-    test_all _ _ _ _ _ _ _ c.keys_differ.ensures c.if-not-keys_differ.false c.all_whole.ensures c.if-not-all_whole.false
-    c.replay.ensures
+returns c = test_all c.args.l _ _ _ _ (sym c.keys_differ.ensures ∙ c.if-not-keys_differ.false) (sym c.all_whole.ensures ∙ c.if-not-all_whole.false) c.replay.ensures

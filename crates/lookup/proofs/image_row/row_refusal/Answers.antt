@@ -65,7 +65,7 @@ pub returns-then-runs_past : goal.returns-then-runs_past
 unfolding blank_record
 returns-then-runs_past c =
     let a = c.args in
-    let p = ap (runs_past (lent a.symbols.now a.wording.now)) (sym c.image_of.ensures) ∙ sym c.runs_past.ensures ∙ c.if-runs_past.true in
+    let p = ap (runs_past (lent a.stores)) (sym c.image_of.ensures) ∙ sym c.runs_past.ensures ∙ c.if-runs_past.true in
     let both = says read_numbers (read-refused _ _ _ _ (read_past _ _ _ _ (well (goal.at.returns-then-runs_past c).Else-not-well_formed) (stands (goal.at.returns-then-runs_past c).Else-l-at) _ (is (goal.at.returns-then-runs_past c).Else-l-at) c.if-r-row.false p)) in
     record { value = both.0; result_value = both.1 }
 
@@ -73,6 +73,6 @@ pub returns : goal.returns
 unfolding blank_record
 returns c =
     let a = c.args in
-    let p = ap (runs_past (lent a.symbols.now a.wording.now)) (sym c.image_of.ensures) ∙ sym c.runs_past.ensures ∙ c.if-runs_past.false in
+    let p = ap (runs_past (lent a.stores)) (sym c.image_of.ensures) ∙ sym c.runs_past.ensures ∙ c.if-runs_past.false in
     let both = says read_numbers (read_done _ _ _ _ (read-passes _ _ _ _ (well (goal.at.returns c).Else-not-well_formed) (stands (goal.at.returns c).Else-l-at) _ (is (goal.at.returns c).Else-l-at) c.if-r-row.false p)) in
     record { value = both.0; result_value = both.1 }

@@ -1,8 +1,7 @@
-use Rattle.lookup.proofs.Zones.{local-within, local_past}
+use native.Mathlib.Omega.{arith}
+use Rattle.lookup.specs.Zones.{local}
 use Rattle.lookup.proofs.texture_packer.local_of.Goals as goal
 
-pub returns-then-d-side : goal.returns-then-d-side
-returns-then-d-side c = local-within _ _ _ _ c.less-d.ensures c.if-d-side.true
-
-pub returns-else-d-side : goal.returns-else-d-side
-returns-else-d-side c = local_past _ _ _ _ c.less-d.ensures c.if-d-side.false
+pub returns : goal.returns
+unfolding local
+returns c = let d = c.saturating_sub.ensures in let e = c.min.ensures in grind arith

@@ -10,5 +10,6 @@ pub returns : goal.returns
 unfolding reaches
 returns c =
     let a = c.args in
-    ap (λ (b : Bool). eqb a.r.page.0 a.page.0 && b)
+    ap (λ (b : Bool). b && c.contains_point.result) c.eq.ensures
+    ∙ ap (λ (b : Bool). eqb a.r.page.0 a.page.0 && b)
     (c.contains_point.ensures ∙ ap (λ (k : Rect). holds_point k a.x a.y) c.zone_of-z.ensures)

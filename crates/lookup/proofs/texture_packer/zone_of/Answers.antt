@@ -24,4 +24,4 @@ pub overflow_add-result-2 : goal.overflow_add-result-2
 overflow_add-result-2 c = omega (arith, (few (goal.at.overflow_add-result-2 c).Start).extrusion, (inside (goal.at.overflow_add-result-2 c).Start).h_few)
 
 pub returns : goal.returns
-returns c = zone-is _ _ _ _ c.less-x.ensures c.less-y.ensures
+returns c = zone-is _ _ _ _ c.saturating_sub.ensures c.saturating_sub-2.ensures

@@ -11,12 +11,11 @@ overflow_add-b-2 c = let b = bounded _ c.requires in omega (arith, b.border)
 
 pub returns : goal.returns
 returns c =
-    record_row c.args.c c.args.r _ _ _ _ _ _ _ _
+    record_row c.args.c c.args.r _ _ _ _ _ _ _
     c.box_of-kept.ensures
     c.whole_of-whole.ensures
     c.is_within.ensures
     c.is_within-2.ensures
     c.is_within-3.ensures
     c.is_within-4.ensures
-    c.same_flag.ensures
     c.box_inside.ensures

@@ -1,69 +1,75 @@
+use Rattle.std.proofs.Common.{rules}
+use Prim.Native.Nat.{◌+◌, max}
 use native.Mathlib.Omega.{arith}
-use mathlib.Core.List.{List}
 use mathlib.Core.Path.{◌≡◌, sym, ap, ◌∙◌}
-use lib.ListN.{length, get_or}
+use mathlib.Core.List.{List}
+use lib.Dec.{eqb}
+use Rattle.geometry.specs.declared.rect.Size.{Size}
 use Rattle.records.specs.declared.frame.Record.{Record}
-use Rattle.records.specs.Layouts.{on_page, ends_of}
+use lib.ListN.{get_or}
+use lib.Seq.{take_all}
+use Rattle.records.specs.Ends.{end_at, grows}
 use Rattle.records.specs.Settings.{blank_record}
-use Rattle.records.proofs.Pages.{ends-none_w, ends-none_h, ends_more_w, ends_more_h, ends-few}
-use Rattle.records.proofs.Standing.{standing_next, standing-whole, standing-good}
-use Rattle.records.proofs.Checks.{Good, framed, Formed, formed}
-use Rattle.records.proofs.layout.frame_ends.Goals.{Start}
-use Rattle.records.proofs.layout.frame_ends.Goals.{In-loop-i}
+use Rattle.records.specs.Layouts.{on_page, ends_of}
+use Rattle.records.proofs.Checks.{Good, framed, formed, stands-good}
+use Rattle.records.proofs.Pages.{Ends, ends-few, ends-none_w, ends-none_h, ends_more_w, ends_more_h, grows-not, grows_by}
+use Rattle.records.proofs.Standing.{take_next}
+use Rattle.records.proofs.layout.frame_ends.Goals.{In-loop-r, then-eq, else-eq}
 use Rattle.records.proofs.layout.frame_ends.Goals as goal
 
-long : (c : Start) → length c.args.l.records ≡ 256
-long c = c.well_formed.0.1.1.1.1.0.1.0.1
+-- each record that stands is good, and ends within bounds
+good : (c : In-loop-r) → Good c.args.l.config (get_or c.standing-standing.result.now c.loop-r.r-index blank_record)
+good c = stands-good _ c.requires _ c.standing-standing.ensures c.loop-r.r-index c.loop-r-test.true
 
-full : (c : Start) → Formed c.args.l
-full c = formed c.args.l c.requires
+few : (c : In-loop-r) → Ends c.args.l.config.border (get_or c.standing-standing.result.now c.loop-r.r-index blank_record)
+few c = ends-few _ (formed _ c.requires) (good c)
 
-here : (c : In-loop-i) → Good c.args.l.config (get_or c.args.l.records c.loop-i.i blank_record)
-here c = standing-good c.args.l (long c.before.before) (full c.before.before) blank_record c.loop-i.i c.loop-i-test.true
+pub loop-r-init : goal.loop-r-init
+loop-r-init c = (sym (ends-none_w _ _), sym (ends-none_h _ _))
 
-pub loop-i-init : goal.loop-i-init
-loop-i-init c = (omega arith, sym (ends-none_w _ _), sym (ends-none_h _ _))
-
-pub offset_bounds-l-i : goal.offset_bounds-l-i
-offset_bounds-l-i c = let f = (full (goal.at.offset_bounds-l-i c).Start).few in omega arith
-
-pub bounds-l-i : goal.bounds-l-i
-bounds-l-i c = let f = (full (goal.at.bounds-l-i c).Start).few in omega arith
-
-pub further-w-requires : goal.further-w-requires
+pub overflow_add-r : goal.overflow_add-r
 unfolding blank_record
-further-w-requires c =
-    let g = here (goal.at.further-w-requires c).In-loop-i in
-    ((framed _ _ g).some_w, (ends-few c.args.l (full (goal.at.further-w-requires c).Start) g).w)
+overflow_add-r c = let f = few (goal.at.overflow_add-r c).In-loop-r in omega (arith, f.w)
 
-pub further-h-requires : goal.further-h-requires
+pub overflow_add-r-then-eq : goal.overflow_add-r-then-eq
 unfolding blank_record
-further-h-requires c =
-    let g = here (goal.at.further-h-requires c).In-loop-i in
-    ((framed _ _ g).some_h, (ends-few c.args.l (full (goal.at.further-h-requires c).Start) g).h)
+overflow_add-r-then-eq c = let f = few (goal.at.overflow_add-r-then-eq c).In-loop-r in omega (arith, f.w)
 
-pub overflow_add-i : goal.overflow_add-i
-overflow_add-i c = omega arith
-
-pub loop-i-smaller : goal.loop-i-smaller
-loop-i-smaller c = omega arith
-
-pub loop-i-preserved : goal.loop-i-preserved
+pub overflow_add-r-then-eq-2 : goal.overflow_add-r-then-eq-2
 unfolding blank_record
-loop-i-preserved c =
-    let l = c.loop-i in
-    let more = standing_next c.args.l (long (goal.at.loop-i-preserved c).Start) (full (goal.at.loop-i-preserved c).Start).few blank_record l.i c.loop-i-test.true in (
-      omega arith,
-      ends_more_w _ _ _ _ _ more l.invariant.1 c.further-w.ensures,
-      ends_more_h _ _ _ _ _ more l.invariant.2 c.further-h.ensures,
-    )
+overflow_add-r-then-eq-2 c = let f = few (goal.at.overflow_add-r-then-eq-2 c).In-loop-r in omega (arith, f.h)
+
+pub overflow_add-r-then-eq-3 : goal.overflow_add-r-then-eq-3
+unfolding blank_record
+overflow_add-r-then-eq-3 c = let f = few (goal.at.overflow_add-r-then-eq-3 c).In-loop-r in omega (arith, f.h)
+
+pub loop-r-preserved : goal.loop-r-preserved
+unfolding blank_record
+loop-r-preserved c =
+    let r = get_or c.standing-standing.result.now c.loop-r.r-index blank_record in
+    let b = c.args.l.config.border in
+    let p = c.args.page.0 in
+    let on = eqb r.page.0 p in
+    let s = framed _ _ (good (goal.at.loop-r-preserved c).In-loop-r) in
+    let w : c.if-eq.w ≡ grows on (end_at r.frame.x r.frame.w b) c.loop-r.w = elim c.if-eq.branch [
+      | then-eq t ↦
+          let m : t.max-w.result ≡ max c.loop-r.w (r.frame.x + r.frame.w + b) = search rules in
+          grows_by on _ _ _ _ _ (sym c.eq.ensures ∙ t.if-eq.true) s.some_w (t.w-is ∙ m)
+      | else-eq t ↦ t.w-is ∙ grows-not on _ _ (sym c.eq.ensures ∙ t.if-eq.false)
+    ] in
+    let h : c.if-eq.h ≡ grows on (end_at r.frame.y r.frame.h b) c.loop-r.h = elim c.if-eq.branch [
+      | then-eq t ↦
+          let m : t.max-h.result ≡ max c.loop-r.h (r.frame.y + r.frame.h + b) = search rules in
+          grows_by on _ _ _ _ _ (sym c.eq.ensures ∙ t.if-eq.true) s.some_h (t.h-is ∙ m)
+      | else-eq t ↦ t.h-is ∙ grows-not on _ _ (sym c.eq.ensures ∙ t.if-eq.false)
+    ] in
+    let more = take_next c.standing-standing.result.now blank_record c.loop-r.r-index c.loop-r-test.true in
+    (ends_more_w b p _ _ r more c.loop-r.invariant.0 w, ends_more_h b p _ _ r more c.loop-r.invariant.1 h)
 
 pub returns : goal.returns
 returns c =
-    let l = c.loop-i in
-    let all = standing-whole c.args.l (long (goal.at.returns c).Start) (full (goal.at.returns c).Start).few l.i (omega arith) in
-    let b = c.args.l.config.border in
-    let p = c.args.page.0 in
-    let w = l.invariant.1 ∙ ap (λ (rs : List Record). (ends_of b (on_page p rs)).w) all in
-    let h = l.invariant.2 ∙ ap (λ (rs : List Record). (ends_of b (on_page p rs)).h) all in
+    let rest = take_all c.loop-r.r-index c.standing-standing.result.now c.loop-r-test.false ∙ c.standing-standing.ensures in
+    let ends : List Record → Size = λ rs. ends_of c.args.l.config.border (on_page c.args.page.0 rs) in
+    let w = c.loop-r.invariant.0 ∙ ap (λ rs. (ends rs).w) rest in
+    let h = c.loop-r.invariant.1 ∙ ap (λ rs. (ends rs).h) rest in
     λ i. record { w = w i; h = h i }

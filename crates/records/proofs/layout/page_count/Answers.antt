@@ -1,51 +1,31 @@
+use Rattle.std.proofs.Common.{rules}
+use Prim.Native.Nat.{◌+◌, max}
 use native.Mathlib.Omega.{arith}
 use mathlib.Core.Path.{◌≡◌, sym, ap, ◌∙◌}
-use lib.ListN.{length}
+use lib.ListN.{get_or}
+use lib.Seq.{take_all}
 use Rattle.records.specs.Settings.{blank_record}
 use Rattle.records.specs.Layouts.{page_count}
+use Rattle.records.proofs.Checks.{formed, stands-good}
 use Rattle.records.proofs.Pages.{count_none, count_more}
-use Rattle.records.proofs.Standing.{standing_next, standing-whole, standing-good}
-use Rattle.records.proofs.Checks.{Formed, formed}
-use Rattle.records.proofs.layout.page_count.Goals.{Start}
+use Rattle.records.proofs.Standing.{take_next}
 use Rattle.records.proofs.layout.page_count.Goals as goal
 
-long : (c : Start) → length c.args.l.records ≡ 256
-long c = c.well_formed.0.1.1.1.1.0.1.0.1
-
-full : (c : Start) → Formed c.args.l
-full c = formed c.args.l c.requires
-
-pub loop-i-init : goal.loop-i-init
-loop-i-init c = (omega arith, sym count_none)
-
-pub offset_bounds-l-i : goal.offset_bounds-l-i
-offset_bounds-l-i c = let f = (full (goal.at.offset_bounds-l-i c).Start).few in omega arith
-
-pub bounds-l-i : goal.bounds-l-i
-bounds-l-i c = let f = (full (goal.at.bounds-l-i c).Start).few in omega arith
-
-pub more_pages-pages-requires : goal.more_pages-pages-requires
+pub overflow_add-r : goal.overflow_add-r
 unfolding blank_record
-more_pages-pages-requires c =
-    let g = standing-good c.args.l (long (goal.at.more_pages-pages-requires c).Start) (full (goal.at.more_pages-pages-requires c).Start) blank_record c.loop-i.i c.loop-i-test.true in
-    omega (arith, g.page, (full (goal.at.more_pages-pages-requires c).Start).config.pages_few)
+overflow_add-r c =
+    let g = stands-good _ c.requires _ c.standing-standing.ensures c.loop-r.r-index c.loop-r-test.true in
+    omega (arith, g.page, (formed _ c.requires).config.pages_few)
 
-pub overflow_add-i : goal.overflow_add-i
-overflow_add-i c = omega arith
+pub loop-r-init : goal.loop-r-init
+loop-r-init c = sym count_none
 
-pub loop-i-smaller : goal.loop-i-smaller
-loop-i-smaller c = omega arith
-
-pub loop-i-preserved : goal.loop-i-preserved
+pub loop-r-preserved : goal.loop-r-preserved
 unfolding blank_record
-loop-i-preserved c =
-    let l = c.loop-i in
-    let t = c.loop-i-test.true in (
-      omega arith,
-      count_more _ _ _ (standing_next c.args.l (long (goal.at.loop-i-preserved c).Start) (full (goal.at.loop-i-preserved c).Start).few blank_record l.i t) l.invariant.1 c.more_pages-pages.ensures,
-    )
+loop-r-preserved c =
+    let r = get_or c.standing-standing.result.now c.loop-r.r-index blank_record in
+    let e : c.max-pages.result ≡ max c.loop-r.pages (r.page.0 + 1) = search rules in
+    count_more _ _ r (take_next _ _ _ c.loop-r-test.true) c.loop-r.invariant e
 
 pub returns : goal.returns
-returns c =
-    let l = c.loop-i in
-    l.invariant.1 ∙ ap page_count (standing-whole c.args.l (long (goal.at.returns c).Start) (full (goal.at.returns c).Start).few l.i (omega arith))
+returns c = c.loop-r.invariant ∙ ap page_count (take_all _ _ c.loop-r-test.false ∙ c.standing-standing.ensures)

@@ -1,7 +1,7 @@
 use native.Mathlib.Omega.{arith}
 use mathlib.Core.Bool.{true}
 use mathlib.Core.Path.{◌≡◌, sym, ap, ◌∙◌}
-use Rattle.records.specs.declared.layout.Sized.TheVariants.{Is}
+use Rattle.std.specs.Prelude.{Ok}
 use Rattle.records.specs.Layouts.{well_formed}
 use Rattle.records.specs.Operations.{sized_numbers}
 use Rattle.records.proofs.Answers.{says, size-unformed, size_no_page, size-passes, sized_refused, sized_is}
@@ -30,5 +30,5 @@ size_of_page-requires c = formed (goal.at.size_of_page-requires c).Else-not-well
 
 pub returns : goal.returns
 returns c =
-    let both = says sized_numbers (ap Is c.size_of_page.ensures ∙ sym (sized_is _ _ (size-passes _ _ (formed (goal.at.returns c).Else-not-well_formed) (omega arith)))) in
+    let both = says sized_numbers (ap Ok c.size_of_page.ensures ∙ sym (sized_is _ _ (size-passes _ _ (formed (goal.at.returns c).Else-not-well_formed) (omega arith)))) in
     record { value = both.0; result_value = both.1 }

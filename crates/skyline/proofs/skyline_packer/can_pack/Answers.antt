@@ -1,10 +1,10 @@
+use Rattle.std.specs.Prelude.{None}
 use Prim.Native.Nat.{ℕ, ◌+◌, ◌<◌}
 use mathlib.Core.Path.{◌≡◌, ap, ◌∙◌, sym, refl}
 use lib.ListN.{get_or}
 use native.Mathlib.Omega.{arith}
 use Rattle.geometry.specs.Placing.{rank, fitting_at, best_of, candidates_from, spot_for, is_found}
 use Rattle.skyline.specs.Skyline.{Level}
-use Rattle.geometry.specs.declared.spot.Found.TheVariants.{Nothing}
 use Rattle.skyline.proofs.Search.{search_start, search_end, start_decides, start-leaves}
 use Rattle.skyline.proofs.Skylines.{search_next}
 use Rattle.skyline.proofs.skyline_packer.can_pack.Goals.{After-fits_some}
@@ -13,7 +13,7 @@ use Rattle.skyline.proofs.skyline_packer.can_pack.Goals as goal
 -- the starts from the next segment on decide, after what fits at this one
 tried : (c : After-fits_some) (f : ℕ → ℕ) → let a = c.args in
     Level f a.xs.now a.ys.now a.n
-    → best_of rank (best_of rank Nothing (fitting_at f a.area a.rotation a.cell (get_or a.xs.now c.loop-i.i 0)))
+    → best_of rank (best_of rank None (fitting_at f a.area a.rotation a.cell (get_or a.xs.now c.loop-i.i 0)))
     (candidates_from f a.area a.rotation a.cell (get_or a.xs.now (c.loop-i.i + 1) 0))
     ≡ spot_for f a.area a.rotation a.cell
 tried c f lv =

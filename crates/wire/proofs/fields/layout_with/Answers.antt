@@ -1,23 +1,25 @@
-use Prim.Native.Nat.{◌%◌}
+use Prim.Native.Nat.{◌<◌, ◌%◌}
+use native.Mathlib.Omega.{arith}
 use lib.ListN.{set}
-use borrow.Author.Tests.{lt-ltb, le-ltb, eq-eqb, ne_eqb}
+use borrow.Author.Tests.{lt-ltb, le-ltb, ne_eqb}
 use Rattle.records.specs.Settings.{blank_record}
 use Rattle.wire.specs.Fields.{layout_with, with_config, with_count, with_record_at}
 use Rattle.wire.proofs.fields.layout_with.Goals as goal
 
-pub returns-then-field-lt11 : goal.returns-then-field-lt11
-unfolding layout_with with_config
-returns-then-field-lt11 c =
-    let l = c.args.l in
-    rw (lt-ltb _ _ c.if-field-lt11.true) (λ i. record { config = c.config_with-c.ensures i; count = l.count; records = l.records })
-
-pub returns-then-field-eq11 : goal.returns-then-field-eq11
+pub returns-in-11 : goal.returns-in-11
 unfolding layout_with with_count
-returns-then-field-eq11 c = rw (le-ltb _ _ c.if-field-lt11.false, eq-eqb _ _ c.if-field-eq11.true)
+returns-in-11 c = rw c.in-11.is
 
-pub returns : goal.returns
+pub returns-in-0-to-10 : goal.returns-in-0-to-10
+unfolding layout_with with_config
+returns-in-0-to-10 c =
+    let l = c.args.l in
+    let below : c.args.field < 11 = omega arith in
+    rw (lt-ltb _ _ below) (λ i. record { config = c.config_with-out.ensures i; count = l.count; records = l.records })
+
+pub returns-in_default : goal.returns-in_default
 unfolding layout_with with_record_at blank_record
-returns c =
+returns-in_default c =
     let l = c.args.l in
     let at = c.args.place % 256 in
-    rw (le-ltb _ _ c.if-field-lt11.false, ne_eqb _ _ c.if-field-eq11.false) (λ i. record { config = l.config; count = l.count; records = set l.records at (c.record_with.ensures i) })
+    rw (le-ltb c.args.field 11 (omega arith), ne_eqb c.args.field 11 (omega arith)) (λ i. record { config = l.config; count = l.count; records = set l.records at (c.record_with.ensures i) })

@@ -1,16 +1,15 @@
+use Prim.Native.Nat.{◌/◌, ◌%◌}
 use native.Mathlib.Omega.{arith}
-use lib.ListN.{length-set}
-use Rattle.wire.proofs.Putting.{four_sets}
+use mathlib.Core.List.{[], ◌∷◌}
+use mathlib.Core.Path.{◌≡◌, ap, ◌∙◌}
+use Rattle.wire.specs.Bytes.{word_bytes, put}
 use Rattle.wire.proofs.words.put_word.Goals as goal
 
-pub bounds-bytes-at-2 : goal.bounds-bytes-at-2
-bounds-bytes-at-2 c = simp length-set (omega arith)
-
-pub bounds-bytes-at-3 : goal.bounds-bytes-at-3
-bounds-bytes-at-3 c = simp length-set (omega arith)
-
-pub bounds-bytes-at-4 : goal.bounds-bytes-at-4
-bounds-bytes-at-4 c = simp length-set (omega arith)
-
+-- the highest byte needs no remainder: n is a word
 pub returns : goal.returns
-returns c = four_sets c.args.bytes.now c.args.at c.args.n (omega arith)
+unfolding word_bytes
+returns c =
+    let n = c.args.n in
+    let highest : n / 16777216 % 256 ≡ n / 16777216 = omega arith in
+    let same = ap (λ b. n % 256 ∷ n / 256 % 256 ∷ n / 65536 % 256 ∷ b ∷ []) highest in
+    c.put_bytes.ensures ∙ ap (put c.args.bytes.now c.args.at) (c.to_le_bytes.ensures ∙ same)

@@ -1,4 +1,4 @@
-use Rattle.art.proofs.memory_rgba8_texture.store_of.Goals as goal
+use Rattle.art.proofs.memory_rgba8_texture.Stores.of.Goals as goal
 
 pub returns-in-Symbols : goal.returns-in-Symbols
 returns-in-Symbols c = rw c.in-Symbols.is

@@ -1,5 +1,0 @@
-use mathlib.Core.Path.{refl}
-use Rattle.wire.proofs.answers.composed.Goals as goal
-
-pub returns-in-Refused : goal.returns-in-Refused
-returns-in-Refused c = rw (c.in-Refused.is, c.number_of.ensures) refl

@@ -1,6 +1,0 @@
-use native.Mathlib.Omega.{arith}
-use mathlib.Core.Path.{refl}
-use Rattle.wire.proofs.words.byte_at.Goals as goal
-
-pub returns : goal.returns
-returns c = let f = c.shared_slice_known-1.given c.args.at in (refl, omega arith)
