@@ -9,7 +9,7 @@ use borrow.Author.Tests.{ltb-true}
 use Rattle.art.specs.declared.memory_rgba8_texture.Image.{Image}
 use Rattle.records.specs.declared.frame.Key.{Key}
 use Rattle.records.specs.declared.texture_packer_config.Config.{Config}
-use Rattle.paint.specs.declared.background.Background.{Background}
+use Rattle.paint.specs.Backgrounds.{Background}
 use Rattle.job.specs.Lines.{line_in}
 use Rattle.std.specs.Prelude.{Result, Ok, Err, IfOk}
 use Rattle.job.specs.Jobs.{opened_job, blank_job, grounded, entered, with_config, with_ground, next_image, with_image, stepped, at_line, taken, unless_malformed, after, ended, lines_in, job_in, held}

@@ -1,13 +1,12 @@
 -- What a job's text says: its lines one after the other.
 -- Assumes nothing.
-use Rattle.std.specs.Prelude.{ℕ, ◌+◌, cond, List, [], ◌∷◌, Result, Ok, Err, ltb, replicate, set}
+use Rattle.std.specs.Prelude.{ℕ, ◌+◌, cond, List, [], ◌∷◌, None, Result, Ok, Err, ltb, replicate, set}
 use Rattle.art.specs.declared.memory_rgba8_texture.Image.{Image}
 use Rattle.art.specs.declared.memory_rgba8_texture.Store.TheVariants.{Symbols}
 use Rattle.records.specs.Settings.{blank_config}
 use Rattle.records.specs.declared.texture_packer_config.Config.{Config}
 use Rattle.records.specs.declared.frame.Key.{Key}
-use Rattle.paint.specs.declared.background.Background.{Background}
-use Rattle.paint.specs.declared.background.Background.TheVariants.{Clear}
+use Rattle.paint.specs.Backgrounds.{Background}
 use Rattle.job.specs.Bytes.{pieces, is_feed}
 use Rattle.job.specs.Lines.{line_in}
 use Rattle.job.specs.declared.lines.Line.{Line}
@@ -27,7 +26,7 @@ blank_entry = record { key = record { 0 = 0 }; image = record { store = Symbols;
 
 -- the configuration of line n, no background, no image
 unfoldable pub opened_job : Config → ℕ → Job
-opened_job c n = record { config = c; opened = n; background = Clear; entries = replicate 256 blank_entry; count = 0 }
+opened_job c n = record { config = c; opened = n; background = None; entries = replicate 256 blank_entry; count = 0 }
 
 unfoldable pub blank_job : Job
 blank_job = opened_job blank_config 0

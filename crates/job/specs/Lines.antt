@@ -1,13 +1,12 @@
 -- What a line of a job says.
 -- Assumes nothing.
-use Rattle.std.specs.Prelude.{ℕ, Bool, cond, ◌&&◌, List, [], ◌∷◌, Result, Ok, Err, eqb, length}
+use Rattle.std.specs.Prelude.{ℕ, Bool, cond, ◌&&◌, List, [], ◌∷◌, Some, None, Result, Ok, Err, eqb, length}
 use Rattle.geometry.specs.Words.{all_of}
 use Rattle.art.specs.declared.memory_rgba8_texture.Image.{Image}
 use Rattle.art.specs.declared.memory_rgba8_texture.Pixel.{Pixel}
 use Rattle.records.specs.declared.texture_packer_config.Config.{Config}
 use Rattle.records.specs.declared.frame.Key.{Key}
-use Rattle.paint.specs.declared.background.Background.{Background}
-use Rattle.paint.specs.declared.background.Background.TheVariants.{Clear, Colour}
+use Rattle.paint.specs.declared.background.Colour.{Colour}
 use Rattle.job.specs.Bytes.{says}
 use Rattle.job.specs.Words.{words_in, word, is_number, to_number, is_part, to_part, is_switch, to_switch, is_store, to_store, is_threshold, to_threshold}
 use Rattle.job.specs.declared.lines.Line.{Line}
@@ -73,11 +72,11 @@ colour_ok ws =
 unfoldable pub pixel_of : List (List ℕ) → Pixel
 pixel_of ws = record { r = to_part (word 1 ws); g = to_part (word 2 ws); b = to_part (word 3 ws); a = to_part (word 4 ws) }
 
-unfoldable pub colour_of : List (List ℕ) → Background
-colour_of ws = Colour (pixel_of ws) (to_threshold (word 5 ws)) (to_switch (word 6 ws))
+unfoldable pub colour_of : List (List ℕ) → Colour
+colour_of ws = record { pixel = pixel_of ws; threshold = to_threshold (word 5 ws); discard = to_switch (word 6 ws) }
 
 unfoldable pub ground_line : List (List ℕ) → Result Line Trouble
-ground_line ws = cond (clear_ok ws) (Ok (Ground Clear)) (cond (colour_ok ws) (Ok (Ground (colour_of ws))) (Err BadBackground))
+ground_line ws = cond (clear_ok ws) (Ok (Ground None)) (cond (colour_ok ws) (Ok (Ground (Some (colour_of ws)))) (Err BadBackground))
 
 -- ## image: key, store, offset, width, height
 

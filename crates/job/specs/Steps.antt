@@ -4,9 +4,7 @@ use Rattle.std.specs.Prelude.{ℕ, ◌+◌, ◌*◌, ◌-◌, Bool, cond, ◌&&�
 use Rattle.art.specs.declared.memory_rgba8_texture.Image.{Image}
 use Rattle.art.specs.declared.memory_rgba8_texture.Store.{Store}
 use Rattle.records.specs.declared.texture_packer_config.Config.{Config}
-use Rattle.paint.specs.declared.background.Background.{Background}
-use Rattle.paint.specs.declared.background.Background.TheVariants.{Colour}
-use Rattle.paint.specs.declared.background.Threshold.{Threshold}
+use Rattle.paint.specs.declared.background.Colour.{Colour}
 use Rattle.job.specs.Numbers.{is_digit, number_in}
 use Rattle.job.specs.Words.{word, is_part, to_part, is_switch, to_switch, is_store, to_store, is_threshold, to_threshold}
 
@@ -28,7 +26,7 @@ switch_in w = where_so (is_switch w) (to_switch w)
 unfoldable pub store_in : List ℕ → Option Store
 store_in w = where_so (is_store w) (to_store w)
 
-unfoldable pub threshold_in : List ℕ → Option Threshold
+unfoldable pub threshold_in : List ℕ → Option (Option ℕ)
 threshold_in w = where_so (is_threshold w) (to_threshold w)
 
 -- ## a line word by word: the first that is not of its kind ends it
@@ -56,7 +54,7 @@ config_in ws = counted 12 ws (do
   forced ← switch_in (word 11 ws)
   Some (record { maxw = maxw; maxh = maxh; padding = padding; border = border; extrusion = extrusion; pages = pages; images = images; rotation = rotation; trim = trim; outlines = outlines; forced = forced }))
 
-unfoldable pub colour_in : List (List ℕ) → Option Background
+unfoldable pub colour_in : List (List ℕ) → Option Colour
 colour_in ws = counted 7 ws (do
   r ← part_in (word 1 ws)
   g ← part_in (word 2 ws)
@@ -64,7 +62,7 @@ colour_in ws = counted 7 ws (do
   a ← part_in (word 4 ws)
   threshold ← threshold_in (word 5 ws)
   discard ← switch_in (word 6 ws)
-  Some (Colour (record { r = r; g = g; b = b; a = a }) threshold discard))
+  Some (record { pixel = record { r = r; g = g; b = b; a = a }; threshold = threshold; discard = discard }))
 
 -- the key and the image
 unfoldable pub image_in : List (List ℕ) → Option (ℕ × Image)

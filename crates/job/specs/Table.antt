@@ -8,10 +8,7 @@ use Rattle.art.specs.declared.memory_rgba8_texture.Store.TheVariants.{Symbols, W
 use Rattle.geometry.specs.Words.{flat}
 use Rattle.records.specs.Settings.{blank_config}
 use Rattle.records.specs.declared.texture_packer_config.Config.{Config}
-use Rattle.paint.specs.declared.background.Background.{Background}
-use Rattle.paint.specs.declared.background.Background.TheVariants.{Clear, Colour}
-use Rattle.paint.specs.declared.background.Threshold.{Threshold}
-use Rattle.paint.specs.declared.background.Threshold.TheVariants.{Unset, AtMost}
+use Rattle.paint.specs.Backgrounds.{Background}
 use Rattle.job.specs.Bytes.{bytes_of}
 use Rattle.job.specs.Numbers.{number_in}
 use Rattle.job.specs.Lines.{line_in}
@@ -58,13 +55,13 @@ config_numbers c =
     ∷ one_if c.rotation ∷ one_if c.trim ∷ one_if c.outlines ∷ one_if c.forced ∷ []
 
 -- 256 where it is unset
-unfoldable pub limit_of : Threshold → ℕ
-limit_of Unset = 256
-limit_of (AtMost t) = t
+unfoldable pub limit_of : Option ℕ → ℕ
+limit_of None = 256
+limit_of (Some t) = t
 
 unfoldable pub ground_numbers : Background → List ℕ
-ground_numbers Clear = []
-ground_numbers (Colour p t discard) = p.r ∷ p.g ∷ p.b ∷ p.a ∷ limit_of t ∷ one_if discard ∷ []
+ground_numbers None = []
+ground_numbers (Some c) = c.pixel.r ∷ c.pixel.g ∷ c.pixel.b ∷ c.pixel.a ∷ limit_of c.threshold ∷ one_if c.discard ∷ []
 
 unfoldable pub image_numbers : Image → List ℕ
 image_numbers i = store_of i.store ∷ i.offset ∷ i.w ∷ i.h ∷ []
@@ -111,7 +108,7 @@ ground_told text = ground_numbers (held (job_in (bytes_of text))).background
 
 -- 255 images in lines 2 to 256, and n image lines more
 unfoldable pub nearly_full : Job
-nearly_full = record { config = blank_config; opened = 1; background = Clear; entries = replicate 256 blank_entry; count = 255 }
+nearly_full = record { config = blank_config; opened = 1; background = None; entries = replicate 256 blank_entry; count = 255 }
 
 unfoldable pub many : ℕ → List ℕ
 many n = outcome (finished (after 257 (replicate n (bytes_of "image 9 wording 8 7 6")) (Closed nearly_full)))

@@ -4,8 +4,6 @@ use Rattle.std.specs.Prelude.{ℕ, Bool, false, cond, ◌||◌, List, [], Option
 use Rattle.geometry.specs.Words.{only}
 use Rattle.art.specs.declared.memory_rgba8_texture.Store.{Store}
 use Rattle.art.specs.declared.memory_rgba8_texture.Store.TheVariants.{Symbols, Wording}
-use Rattle.paint.specs.declared.background.Threshold.{Threshold}
-use Rattle.paint.specs.declared.background.Threshold.TheVariants.{Unset, AtMost}
 use Rattle.job.specs.Bytes.{up_to, pieces, filled, says, is_hash, is_blank}
 use Rattle.job.specs.Numbers.{number_in}
 
@@ -63,5 +61,5 @@ to_store w = cond (says "symbols" w) Symbols Wording
 unfoldable pub is_threshold : List ℕ → Bool
 is_threshold w = says "none" w || is_part w
 
-unfoldable pub to_threshold : List ℕ → Threshold
-to_threshold w = cond (says "none" w) Unset (AtMost (to_part w))
+unfoldable pub to_threshold : List ℕ → Option ℕ
+to_threshold w = cond (says "none" w) None (Some (to_part w))

@@ -7,7 +7,7 @@ ghost use Rattle.job.specs.Lines.{config_line, clear_ok, ground_line, image_line
 
 use crate::{values, words};
 use art::memory_rgba8_texture::{Image, Pixel};
-use paint::background::Background;
+use paint::background::{Background, Colour};
 use records::frame::Key;
 use records::texture_packer_config::Config;
 use std::fmt;
@@ -98,7 +98,7 @@ fn clear_ok(line: &[u8]) -> bool
 }
 
 #[tactic(auto, unfolding(crate::specs::Steps::colour_in))]
-fn colour_in(line: &[u8]) -> Option<Background>
+fn colour_in(line: &[u8]) -> Option<Colour>
     ensures { result ≡ colour_in (split line.now) }
 {
     if words::word_count(line) != 7 {
@@ -110,19 +110,21 @@ fn colour_in(line: &[u8]) -> Option<Background>
         b: values::part_at(line, 3)?,
         a: values::part_at(line, 4)?,
     };
-    let threshold = values::threshold_at(line, 5)?;
-    let discard = values::switch_at(line, 6)?;
-    Some(Background::Colour(pixel, threshold, discard))
+    Some(Colour {
+        pixel,
+        threshold: values::threshold_at(line, 5)?,
+        discard: values::switch_at(line, 6)?,
+    })
 }
 
 fn ground_line(line: &[u8]) -> Result<Line, Trouble>
     ensures { result ≡ ground_line (split line.now) }
 {
     if clear_ok(line) {
-        return Ok(Line::Ground(Background::Clear));
+        return Ok(Line::Ground(None));
     }
     colour_in(line)
-        .map(Line::Ground)
+        .map(|colour| Line::Ground(Some(colour)))
         .ok_or(Trouble::BadBackground)
 }
 

@@ -68,7 +68,7 @@ fn opened_job(config: Config, line: usize) -> Job
     Job {
         config,
         opened: line,
-        background: Background::Clear,
+        background: None,
         entries: [blank_entry(); 256],
         count: 0,
     }

@@ -7,7 +7,6 @@ ghost use Rattle.job.specs.Steps.{part_in, switch_in, store_in, threshold_in};
 
 use crate::{numbers, words};
 use art::memory_rgba8_texture::Store;
-use paint::background::Threshold;
 
 // Word n is these bytes. Past the last word there are none.
 pub fn is_word(line: &[u8], n: usize, wanted: &[u8]) -> bool
@@ -52,11 +51,11 @@ pub fn store_at(line: &[u8], n: usize) -> Option<Store>
 }
 
 #[tactic(auto, unfolding(crate::specs::Steps::threshold_in, crate::specs::Words::is_threshold, crate::specs::Words::to_threshold, crate::specs::Bytes::bytes_of))]
-pub fn threshold_at(line: &[u8], n: usize) -> Option<Threshold>
+pub fn threshold_at(line: &[u8], n: usize) -> Option<Option<u8>>
     ensures { result ≡ threshold_in (word n (split line.now)) }
 {
     if is_word(line, n, b"none") {
-        return Some(Threshold::Unset);
+        return Some(None);
     }
-    Some(Threshold::AtMost(part_at(line, n)?))
+    part_at(line, n).map(Some)
 }
