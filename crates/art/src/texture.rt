@@ -21,16 +21,7 @@ fn all_zero(bytes: &[u8], first: usize, step: usize, count: usize) -> bool
     requires { HasRun bytes.now first step count }
     ensures { result ≡ not (any_set bytes.now first step count) }
 {
-    let mut at = first;
-    let mut k = 0;
-    while k < count {
-        if bytes[at] != 0 {
-            return false;
-        }
-        at += step;
-        k += 1;
-    }
-    true
+    (0..count).all(|k| bytes[first + k * step] == 0)
 }
 
 pub fn is_column_transparent(stores: Stores<'_>, image: Image, col: u32) -> bool
