@@ -1,14 +1,14 @@
 -- Keys that differ, whole boxes, and 2 and 3 together: the code's tests are the definitions'. Assumes nothing.
-use Prim.Native.Nat.{ℕ, ◌+◌, ◌≤◌, ◌<◌}
+use Prim.Native.Nat.{ℕ, ◌+◌, ◌<◌}
 use mathlib.Core.Path.{◌≡◌, refl, sym, ap, ◌∙◌, subst}
 use mathlib.Core.Bool.{Bool, true, false, cond, not, ◌&&◌, ◌||◌}
 use mathlib.Core.List.{List, [], ◌∷◌, ◌++◌, map}
 use native.Mathlib.Omega.{arith}
 use native.Mathlib.Numerals.{add-one}
 use lib.ListN.{length, get_or, take, drop, set}
-use lib.Seq.{take_all, drop-length, take-suc-set}
+use lib.Seq.{drop-length, take-suc, take-suc-set}
 use lib.Dec.{eqb}
-use borrow.Author.Tests.{eq-eqb, ne_eqb}
+use Rattle.std.specs.List.{list_any, list_all}
 use Rattle.geometry.specs.Words.{all_of, all, any}
 use Rattle.geometry.specs.declared.rect.Rect.{Rect}
 use Rattle.geometry.specs.declared.rect.Size.{Size}
@@ -19,7 +19,7 @@ use Rattle.records.specs.declared.layout.Layout.{Layout}
 use Rattle.records.specs.Records.{whole_of, box_of}
 use Rattle.records.specs.Layouts.{standing, well_formed, has_key, page_count}
 use Rattle.records.proofs.Rows.{and_true}
-use Rattle.records.proofs.Standing.{rest_next, rest_stop, rest_more, rest-done, standing-long, standing-at, standing_next}
+use Rattle.records.proofs.Standing.{rest_next}
 use Rattle.rules.specs.Faithful.{keys_differ, placed_so, whole_if_untrimmed, faithful}
 use Rattle.faithful.specs.Replay.{distinct, key_of, Skies, Ran, Tested, trust, Trusted}
 use Rattle.faithful.specs.declared.replaying.Stand.{Stand}
@@ -32,41 +32,32 @@ use Rattle.rules.proofs.Pages.{map_snoc}
 drop_end : {A : Type 0} (l : List A) (i : ℕ) → i ≡ length l → drop i l ≡ []
 drop_end l i e = ap (λ (j : ℕ). drop j l) e ∙ drop-length l
 
-module _ (l : List ℕ) (k : ℕ) where
-  abbrev is : ℕ → Bool
-  is j = eqb j k
+-- std's words for a test over a list are these
+any-list : {A : Type 0} (t : A → Bool) (l : List A) → list_any t l ≡ any t l
+unfolding any
+any-list t [] = refl
+any-list t (x ∷ xs) = ap (λ (b : Bool). t x || b) (any-list t xs)
 
-  pub any_hit : (i j : ℕ) → j < length l → any is (drop j l) ≡ any is (drop i l) → get_or l j 0 ≡ k → true ≡ any is (drop i l)
-  unfolding any
-  any_hit i j h e y =
-      let z : any is (drop j l) ≡ true = ap (any is) (rest_next (λ n. true) l 0 j h) ∙ ap (λ (b : Bool). b || any is (drop (j + 1) l)) (eq-eqb (get_or l j 0) k y) in
-      sym z ∙ e
+pub all-list : {A : Type 0} (t : A → Bool) (l : List A) → list_all t l ≡ all t l
+unfolding all
+all-list t [] = refl
+all-list t (x ∷ xs) = ap (λ (b : Bool). t x && b) (all-list t xs)
 
-  pub any_more : (i j : ℕ) → j < length l → any is (drop j l) ≡ any is (drop i l) → (get_or l j 0 ≡ k → ⊥) → any is (drop (j + 1) l) ≡ any is (drop i l)
-  unfolding any
-  any_more i j h e n =
-      let z : any is (drop j l) ≡ any is (drop (j + 1) l) = ap (any is) (rest_next (λ n. true) l 0 j h) ∙ ap (λ (b : Bool). b || any is (drop (j + 1) l)) (ne_eqb (get_or l j 0) k n) in
-      sym z ∙ e
-
-  pub any_end : (i j : ℕ) → j ≡ length l → any is (drop j l) ≡ any is (drop i l) → false ≡ any is (drop i l)
-  unfolding any
-  any_end i j h e = sym (ap (any is) (drop_end l j h)) ∙ e
-
-module _ (l : List ℕ) where
-  step : (i : ℕ) (b : Bool) → i < length l → b ≡ any (λ (j : ℕ). eqb j (get_or l i 0)) (drop (i + 1) l) → distinct (drop i l) ≡ (not b && distinct (drop (i + 1) l))
+module _ (l : List ℕ) (i : ℕ) (h : i < length l) where
+  step : (b : Bool) → b ≡ list_any (λ (j : ℕ). eqb j (get_or l i 0)) (drop (i + 1) l) → distinct (drop i l) ≡ (not b && distinct (drop (i + 1) l))
   unfolding distinct
-  step i b h e = ap distinct (rest_next (λ n. true) l 0 i h) ∙ ap (λ (z : Bool). not z && distinct (drop (i + 1) l)) (sym e)
+  step b e = ap distinct (rest_next (λ n. true) l 0 i h) ∙ ap (λ (z : Bool). not z && distinct (drop (i + 1) l)) (sym (e ∙ any-list _ _))
 
-  pub distinct_hit : (i : ℕ) (b : Bool) → i < length l → b ≡ any (λ (j : ℕ). eqb j (get_or l i 0)) (drop (i + 1) l) → b ≡ true → distinct (drop i l) ≡ distinct l → false ≡ distinct l
-  distinct_hit i b h e t p = sym (step i true h (sym t ∙ e)) ∙ p
+  pub distinct_hit : (b : Bool) → b ≡ list_any (λ (j : ℕ). eqb j (get_or l i 0)) (drop (i + 1) l) → b ≡ true → distinct (drop i l) ≡ distinct l → false ≡ distinct l
+  distinct_hit b e t p = sym (step true (sym t ∙ e)) ∙ p
 
-  pub distinct_more : (i : ℕ) (b : Bool) → i < length l → b ≡ any (λ (j : ℕ). eqb j (get_or l i 0)) (drop (i + 1) l) → b ≡ false → distinct (drop i l) ≡ distinct l
+  pub distinct_more : (b : Bool) → b ≡ list_any (λ (j : ℕ). eqb j (get_or l i 0)) (drop (i + 1) l) → b ≡ false → distinct (drop i l) ≡ distinct l
       → distinct (drop (i + 1) l) ≡ distinct l
-  distinct_more i b h e t p = sym (step i false h (sym t ∙ e)) ∙ p
+  distinct_more b e t p = sym (step false (sym t ∙ e)) ∙ p
 
-  pub distinct_end : (i : ℕ) → i ≡ length l → distinct (drop i l) ≡ distinct l → true ≡ distinct l
-  unfolding distinct
-  distinct_end i h p = sym (ap distinct (drop_end l i h)) ∙ p
+pub distinct_end : (l : List ℕ) (i : ℕ) → i ≡ length l → distinct (drop i l) ≡ distinct l → true ≡ distinct l
+unfolding distinct
+distinct_end l i h p = sym (ap distinct (drop_end l i h)) ∙ p
 
 any_keys : (k : ℕ) (rs : List Record) → any (λ (j : ℕ). eqb j k) (map key_of rs) ≡ any (λ (r : Record). eqb r.key.0 k) rs
 unfolding any
@@ -78,36 +69,15 @@ unfolding distinct keys_differ has_key
 keys_distinct [] = refl
 keys_distinct (r ∷ rs) = ap (λ (b : Bool). not b && distinct (map key_of rs)) (any_keys r.key.0 rs) ∙ ap (λ (b : Bool). not (any (has_key r.key) rs) && b) (keys_distinct rs)
 
--- ## over the standing records
+-- ## the keys of records, copied
 
-module _ (l : Layout) (long : length l.records ≡ 256) (n : l.count ≤ 256) (d : Record) where
-  pub keys_more : (keys : List ℕ) (i : ℕ) → i < l.count → i < length keys → take i keys ≡ map key_of (take i (standing l))
-      → take (i + 1) (set keys i (get_or l.records i d).key.0) ≡ map key_of (take (i + 1) (standing l))
-  keys_more keys i h m e =
-      ap (λ (j : ℕ). take j (set keys i (get_or l.records i d).key.0)) (add-one i)
-      ∙ take-suc-set keys i (get_or l.records i d).key.0 m
-      ∙ ap (λ (z : List ℕ). z ++ (get_or l.records i d).key.0 ∷ []) e
-      ∙ sym (ap (map key_of) (standing_next l long n d i h) ∙ map_snoc key_of (take i (standing l)) (get_or l.records i d))
-
-  pub keys_done : (keys : List ℕ) (i : ℕ) → i ≡ l.count → take i keys ≡ map key_of (take i (standing l)) → take l.count keys ≡ map key_of (standing l)
-  keys_done keys i h e =
-      let m = standing-long l long n in
-      ap (λ (j : ℕ). take j keys) (sym h) ∙ e ∙ ap (map key_of) (take_all i (standing l) (omega arith))
-
-  -- a test over the standing records, from one on
-  module _ (t : Record → Bool) where
-    at_test : (i : ℕ) (b : Bool) → i < l.count → b ≡ t (get_or l.records i d) → b ≡ t (get_or (standing l) i d)
-    at_test i b h e = e ∙ ap t (sym (standing-at l long n d i h))
-
-    pub all_stop : (i : ℕ) (b : Bool) → i < l.count → b ≡ t (get_or l.records i d) → b ≡ false → all t (drop i (standing l)) ≡ all t (standing l) → false ≡ all t (standing l)
-    all_stop i b h e f p = let m = standing-long l long n in sym (rest_stop t (standing l) d i b (omega arith) (at_test i b h e) f) ∙ p
-
-    pub all_more : (i : ℕ) (b : Bool) → i < l.count → b ≡ t (get_or l.records i d) → b ≡ true → all t (drop i (standing l)) ≡ all t (standing l)
-        → all t (drop (i + 1) (standing l)) ≡ all t (standing l)
-    all_more i b h e f p = let m = standing-long l long n in rest_more t (standing l) d i b (omega arith) (at_test i b h e) f ∙ p
-
-    pub all_done : (i : ℕ) → i ≡ l.count → all t (drop i (standing l)) ≡ all t (standing l) → true ≡ all t (standing l)
-    all_done i h p = let m = standing-long l long n in sym (rest-done t (standing l) d i (omega arith)) ∙ p
+pub keys_more : (rs : List Record) (d : Record) (keys : List ℕ) (i : ℕ) → i < length rs → i < length keys → take i keys ≡ map key_of (take i rs)
+    → take (i + 1) (set keys i (get_or rs i d).key.0) ≡ map key_of (take (i + 1) rs)
+keys_more rs d keys i h m e =
+    ap (λ (j : ℕ). take j (set keys i (get_or rs i d).key.0)) (add-one i)
+    ∙ take-suc-set keys i (get_or rs i d).key.0 m
+    ∙ ap (λ (z : List ℕ). z ++ (get_or rs i d).key.0 ∷ []) e
+    ∙ sym (ap (map key_of) (ap (λ (j : ℕ). take j rs) (add-one i) ∙ take-suc rs i d h) ∙ map_snoc key_of (take i rs) (get_or rs i d))
 
 -- ## the three tests
 

@@ -14,7 +14,7 @@ use geometry::rect::Size;
 use geometry::spot;
 use geometry::spot::Found;
 use records::frame;
-use records::frame::{Page, Record};
+use records::frame::Record;
 use records::layout::Layout;
 use records::texture_packer_config::Config;
 
@@ -78,13 +78,6 @@ fn replay_one(
     same_spot(c, r, f)
 }
 
-fn more_pages(pages: usize, page: Page) -> usize
-    ensures { result ≡ max pages (page.0 + 1) }
-{
-    let n = page.0 as usize + 1;
-    if pages < n { n } else { pages }
-}
-
 // The standing records placed again, one after the other, on empty pages.
 pub fn replay(l: Layout, xs: &mut [u32], ys: &mut [u32], ns: &mut [usize]) -> Stand
     requires l_value { well_formed l ≡ true }
@@ -92,18 +85,14 @@ pub fn replay(l: Layout, xs: &mut [u32], ys: &mut [u32], ns: &mut [usize]) -> St
     ensures { Ran l result xs.new ys.new ns.new }
 {
     let c = l.config;
-    let count = l.count;
     pages::fresh_pages(xs, ys, ns, c.maxw);
     let mut pages = 0;
-    let mut i = 0;
-    while i < count {
-        let r = l.records[i];
-        let so = replay_one(xs, ys, ns, c, pages, r);
-        if !so {
+    let standing = &l.records[..l.count];
+    for r in standing {
+        if !replay_one(xs, ys, ns, c, pages, *r) {
             return Stand { so: false, pages };
         }
-        pages = more_pages(pages, r.page);
-        i += 1;
+        pages = pages.max(r.page.0 as usize + 1);
     }
     Stand { so: true, pages }
 }

@@ -21,45 +21,24 @@ pub enum Trust {
     StandsOn(usize),
 }
 
-// Whether a key stands among the keys from i on.
-fn key_later(keys: &[u32], i: usize, key: u32) -> bool
-    requires { i ≤ length keys.now }
-    ensures { result ≡ any (λ j. eqb j key) (drop i keys.now) }
-{
-    let mut j = i;
-    while j < keys.len() {
-        if keys[j] == key {
-            return true;
-        }
-        j += 1;
-    }
-    false
-}
-
 fn all_differ(keys: &[u32]) -> bool
     ensures { result ≡ distinct keys.now }
 {
-    let mut i = 0;
-    while i < keys.len() {
-        if key_later(keys, i + 1, keys[i]) {
+    for (i, key) in keys.iter().enumerate() {
+        if keys[i + 1..].contains(key) {
             return false;
         }
-        i += 1;
     }
     true
 }
 
-// The keys of the standing records, in order: 1 KB to compare instead of 13.
-fn copy_keys(l: Layout, keys: &mut [u32])
-    requires { (well_formed l ≡ true) × (length keys.old ≡ 256) }
-    ensures { take l.count keys.new ≡ map key_of (standing l) }
+// The keys of some records, in order: 1 KB to compare instead of 13.
+fn copy_keys(records: &[Record], keys: &mut [u32])
+    requires { length records.now ≤ length keys.old }
+    ensures { take (length records.now) keys.new ≡ map key_of records.now }
 {
-    let count = l.count;
-    let mut i = 0;
-    while i < count {
-        let r = l.records[i];
+    for (i, r) in records.iter().enumerate() {
         keys[i] = r.key.0;
-        i += 1;
     }
 }
 
@@ -67,10 +46,10 @@ fn keys_differ(l: Layout) -> bool
     requires { well_formed l ≡ true }
     ensures { result ≡ keys_differ (standing l) }
 {
+    let standing = &l.records[..l.count];
     let mut keys = [0u32; 256];
-    let count = l.count;
-    copy_keys(l, &mut keys);
-    all_differ(&keys[..count])
+    copy_keys(standing, &mut keys);
+    all_differ(&keys[..standing.len()])
 }
 
 fn whole_if_untrimmed(c: Config, r: Record) -> bool
@@ -88,17 +67,8 @@ fn all_whole(l: Layout) -> bool
     requires { well_formed l ≡ true }
     ensures { result ≡ all (whole_if_untrimmed l.config) (standing l) }
 {
-    let c = l.config;
-    let count = l.count;
-    let mut i = 0;
-    while i < count {
-        let r = l.records[i];
-        if !whole_if_untrimmed(c, r) {
-            return false;
-        }
-        i += 1;
-    }
-    true
+    let standing = &l.records[..l.count];
+    standing.iter().all(|r| whole_if_untrimmed(l.config, *r))
 }
 
 // Whether the layout is faithful; if it is, the skylines of its pages and their number.

@@ -1,17 +1,12 @@
-use mathlib.Core.Path.{◌≡◌, refl}
+use mathlib.Core.Path.{refl}
 use native.Mathlib.Omega.{arith}
-use lib.ListN.{length, take}
+use lib.ListN.{take}
 use Rattle.records.specs.Settings.{blank_record}
 use Rattle.records.specs.Layouts.{standing}
 use Rattle.records.proofs.Checks.{Formed, formed, good-holds}
-use Rattle.records.proofs.Standing.{standing-good}
-use Rattle.faithful.proofs.Sofar.{long-take, sofar_none, sofar_stop, sofar_more, sofar_done}
+use Rattle.faithful.proofs.Sofar.{few-earlier, sofar_none, sofar_stop, sofar_more, sofar_done}
 use Rattle.faithful.proofs.replaying.replay.Goals.{Start}
 use Rattle.faithful.proofs.replaying.replay.Goals as goal
-
--- the array has 256 places
-long : (c : Start) → length c.args.l.records ≡ 256
-long c = c.well_formed.0.1.1.1.1.0.1.0.1
 
 form : (c : Start) → Formed c.args.l
 form c = formed c.args.l c.requires.l_value
@@ -19,45 +14,36 @@ form c = formed c.args.l c.requires.l_value
 pub fresh_pages-requires : goal.fresh_pages-requires
 fresh_pages-requires c = (omega (arith, (form (goal.at.fresh_pages-requires c).Start).config.wide), c.requires.long)
 
-pub loop-i-init : goal.loop-i-init
-loop-i-init c = (omega arith, sofar_none c.args.l (long (goal.at.loop-i-init c).Start) (form (goal.at.loop-i-init c).Start) blank_record _ _ _ _ refl c.fresh_pages.ensures)
+pub shared_ref_as_front-standing : goal.shared_ref_as_front-standing
+shared_ref_as_front-standing c = (form (goal.at.shared_ref_as_front-standing c).Start).few
 
-pub offset_bounds-l-i : goal.offset_bounds-l-i
-offset_bounds-l-i c = omega (arith, (form (goal.at.offset_bounds-l-i c).Start).few, c.loop-i-test.true)
+pub loop-r-init : goal.loop-r-init
+loop-r-init c = sofar_none c.args.l (form (goal.at.loop-r-init c).Start) _ _ _ _ refl c.fresh_pages.ensures
 
-pub bounds-l-i : goal.bounds-l-i
-bounds-l-i c = omega (arith, (form (goal.at.bounds-l-i c).Start).few, c.loop-i-test.true, long (goal.at.bounds-l-i c).Start)
+pub replay_one-requires : goal.replay_one-requires
+unfolding standing blank_record
+replay_one-requires c =
+    let l = c.loop-r in
+    let f = form (goal.at.replay_one-requires c).Start in
+    let rs = standing c.args.l in record {
+      c_value = (f.in_bounds, good-holds _ _ (f.at l.r-index c.loop-r-test.true), l.invariant.pages_few);
+      some_skies = (take l.r-index rs, l.invariant.skies, few-earlier c.args.l f l.r-index c.loop-r-test.true);
+    }
 
-pub replay_one-so-requires : goal.replay_one-so-requires
-replay_one-so-requires c =
-    let l = c.loop-i in
-    let t = c.loop-i-test.true in
-    let sf = l.invariant.1 in
-    let n = long-take c.args.l (long (goal.at.replay_one-so-requires c).Start) (form (goal.at.replay_one-so-requires c).Start) blank_record l.i l.invariant.0 in record { c_value = ((form (goal.at.replay_one-so-requires c).Start).in_bounds, good-holds _ _ (standing-good c.args.l (long (goal.at.replay_one-so-requires c).Start) (form (goal.at.replay_one-so-requires c).Start) _ l.i t), sf.pages_few); some_skies = (take l.i (standing c.args.l), sf.skies, omega (arith, n, t, (form (goal.at.replay_one-so-requires c).Start).few)) }
+pub returns-then-not-replay_one : goal.returns-then-not-replay_one
+unfolding standing blank_record
+returns-then-not-replay_one c =
+    let l = c.loop-r in
+    sofar_stop c.args.l (form (goal.at.returns-then-not-replay_one c).Start) l.r-index c.loop-r-test.true l.pages _ _ _ _ _ _ _ c.if-not-replay_one.true l.invariant
+    (c.replay_one.ensures _ l.invariant.skies)
 
-pub returns-then-not-so : goal.returns-then-not-so
-returns-then-not-so c =
-    let l = c.loop-i in
-    sofar_stop c.args.l (long (goal.at.returns-then-not-so c).Start) (form (goal.at.returns-then-not-so c).Start) _ l.i l.pages _ _ _ _ _ _ _ c.loop-i-test.true c.if-not-so.true l.invariant.1
-    (c.replay_one-so.ensures _ l.invariant.1.skies)
-
-pub overflow_add-i : goal.overflow_add-i
-overflow_add-i c = omega arith
-
-pub loop-i-smaller : goal.loop-i-smaller
-loop-i-smaller c = omega arith
-
-pub loop-i-preserved : goal.loop-i-preserved
-loop-i-preserved c =
-    let l = c.loop-i in
-    let t = c.loop-i-test.true in (
-      omega (arith, t),
-      sofar_more c.args.l (long (goal.at.loop-i-preserved c).Start) (form (goal.at.loop-i-preserved c).Start) _ l.i l.pages _ _ _ _ _ _ _ _ t c.if-not-so.false l.invariant.1
-          (c.replay_one-so.ensures _ l.invariant.1.skies) c.more_pages-pages.ensures,
-    )
+pub loop-r-preserved : goal.loop-r-preserved
+unfolding standing blank_record
+loop-r-preserved c =
+    let l = c.loop-r in
+    sofar_more c.args.l (form (goal.at.loop-r-preserved c).Start) l.r-index c.loop-r-test.true l.pages _ _ _ _ _ _ _ _ c.if-not-replay_one.false l.invariant
+    (c.replay_one.ensures _ l.invariant.skies) c.max-pages.ensures
 
 pub returns : goal.returns
-returns c =
-    let l = c.loop-i in
-    let e : l.i ≡ c.args.l.count = omega arith in
-    sofar_done c.args.l (long (goal.at.returns c).Start) (form (goal.at.returns c).Start) blank_record l.i l.pages _ _ _ e l.invariant.1
+unfolding standing
+returns c = let l = c.loop-r in sofar_done c.args.l (form (goal.at.returns c).Start) l.r-index l.pages _ _ _ (omega arith) l.invariant

@@ -1,9 +1,5 @@
-use Prim.Native.Nat.{◌-◌, ◌≤◌}
 use Rattle.faithful.proofs.Sofar.{Sofar}
 use Rattle.faithful.proofs.replaying.replay.Given as goal
 
-abbrev pub invariant-loop-i : goal.invariant-loop-i
-invariant-loop-i l = (l.i ≤ l.count) × Sofar l.l l.i l.pages l.xs l.ys l.ns
-
-abbrev pub decreases-loop-i : goal.decreases-loop-i
-decreases-loop-i l = l.count - l.i
+abbrev pub invariant-loop-r : goal.invariant-loop-r
+invariant-loop-r l = Sofar l.fn.l l.r-index l.pages l.xs l.ys l.ns

@@ -1,11 +1,7 @@
-use Prim.Native.Nat.{◌-◌, ◌≤◌}
 use mathlib.Core.Path.{◌≡◌}
-use lib.ListN.{length, drop}
+use lib.ListN.{drop}
 use Rattle.faithful.specs.Replay.{distinct}
 use Rattle.faithful.proofs.trust.all_differ.Given as goal
 
 abbrev pub invariant-loop-i : goal.invariant-loop-i
-invariant-loop-i l = (l.i ≤ length l.keys) × (distinct (drop l.i l.keys) ≡ distinct l.keys)
-
-abbrev pub decreases-loop-i : goal.decreases-loop-i
-decreases-loop-i l = length l.keys - l.i
+invariant-loop-i l = distinct (drop l.i l.keys) ≡ distinct l.keys

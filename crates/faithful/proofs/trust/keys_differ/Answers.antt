@@ -1,16 +1,13 @@
-use mathlib.Core.Path.{ap, sym, ◌∙◌}
-use native.Mathlib.Omega.{arith}
-use lib.Seq.{length-take-le}
+use mathlib.Core.Path.{ap, ◌∙◌}
+use Rattle.records.specs.Layouts.{standing}
 use Rattle.records.proofs.Checks.{formed}
 use Rattle.faithful.specs.Replay.{distinct}
 use Rattle.faithful.proofs.Trusting.{keys_distinct}
 use Rattle.faithful.proofs.trust.keys_differ.Goals as goal
 
-pub slice_bounds-keys-end : goal.slice_bounds-keys-end
-slice_bounds-keys-end c = omega (arith, (formed _ c.requires).few, c.copy_keys.auto.keys)
-
-pub slice_bounds-all_differ-end : goal.slice_bounds-all_differ-end
-slice_bounds-all_differ-end c = sym (length-take-le _ _ (omega (arith, (formed _ c.requires).few, c.copy_keys.auto.keys)))
+pub shared_ref_as_front-standing : goal.shared_ref_as_front-standing
+shared_ref_as_front-standing c = (formed _ c.requires).few
 
 pub returns : goal.returns
+unfolding standing
 returns c = c.all_differ.ensures ∙ ap distinct c.copy_keys.ensures ∙ keys_distinct _
