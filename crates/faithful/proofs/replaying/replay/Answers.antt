@@ -15,7 +15,7 @@ pub fresh_pages-requires : goal.fresh_pages-requires
 fresh_pages-requires c = (omega (arith, (form (goal.at.fresh_pages-requires c).Start).config.wide), c.requires.long)
 
 pub shared_ref_as_front-standing : goal.shared_ref_as_front-standing
-shared_ref_as_front-standing c = (form (goal.at.shared_ref_as_front-standing c).Start).few
+shared_ref_as_front-standing c = omega (arith, (form (goal.at.shared_ref_as_front-standing c).Start).few)
 
 pub loop-r-init : goal.loop-r-init
 loop-r-init c = sofar_none c.args.l (form (goal.at.loop-r-init c).Start) _ _ _ _ refl c.fresh_pages.ensures
