@@ -1,5 +1,7 @@
 // A page in bands, each of as many rows as the buffer holds.
-ghost use Rattle.std.specs.Prelude.{◌≡◌, ◌+◌, ◌*◌, ◌≤◌, length};
+ghost use Rattle.std.specs.Prelude.{◌*◌, ◌≤◌};
+ghost use Rattle.tool.specs.Bands.{IsBand};
+ghost use Rattle.tool.specs.declared.bands.Rows.{Rows};
 
 use crate::telling::Refused;
 use crate::{files, system};
@@ -67,6 +69,14 @@ pub struct Sheet<'a> {
     pub size: Size,
 }
 
+// Whole rows of a page: how many bytes each has, the first, and how many they are.
+#[derive(Clone, Copy)]
+struct Rows {
+    long: usize,
+    first: u32,
+    count: u32,
+}
+
 // How many of the rows that are left are taken at once.
 fn rows_at_once(room: usize, row: usize, left: u32) -> u32
     requires { 1 ≤ row }
@@ -80,8 +90,7 @@ fn rows_at_once(room: usize, row: usize, left: u32) -> u32
 }
 
 impl Sheet<'_> {
-    // Whole rows from `first` on, composed.
-    fn compose(&self, first: u32, rows: u32, band: &mut [u8]) -> Result<(), Fault> {
+    fn compose(&self, rows: Rows, band: &mut [u8]) -> Result<(), Fault> {
         let pages = self.pages;
         match image_exporter::compose_rows(
             *pages.layout,
@@ -89,8 +98,8 @@ impl Sheet<'_> {
             pages.wording,
             self.page,
             pages.background,
-            first,
-            rows,
+            rows.first,
+            rows.count,
             band,
         ) {
             Composed::Refused(r) => Err(Fault::Refused(r)),
@@ -98,8 +107,7 @@ impl Sheet<'_> {
         }
     }
 
-    // The same rows, as they are shown.
-    fn check(&self, first: u32, rows: u32, shown: &[u8]) -> Result<(), Fault> {
+    fn check(&self, rows: Rows, shown: &[u8]) -> Result<(), Fault> {
         let pages = self.pages;
         match checking::check_rows(
             *pages.layout,
@@ -107,8 +115,8 @@ impl Sheet<'_> {
             pages.wording,
             self.page,
             pages.background,
-            first,
-            rows,
+            rows.first,
+            rows.count,
             shown,
         ) {
             Checked::Same => Ok(()),
@@ -117,72 +125,59 @@ impl Sheet<'_> {
         }
     }
 
-    // One band, composed in the buffer and written.
-    fn write_band<F: Write>(
-        &self,
-        file: &mut F,
-        band: &mut [u8],
-        first: u32,
-        rows: u32,
-    ) -> Result<(), Fault> {
-        self.compose(first, rows, band)?;
-        file.write_all(band).map_err(|_| Fault::Unwritten)
-    }
-
     // One band, read into the buffer and checked there.
-    fn check_band<F: Read>(
-        &self,
-        file: &mut F,
-        band: &mut [u8],
-        row: usize,
-        first: u32,
-        rows: u32,
-    ) -> Result<(), Fault>
-        requires { (1 ≤ row) × (length band.old ≡ row * rows) × (first + rows ≤ 4294967295) }
+    fn check_band<F: Read>(&self, file: &mut F, rows: Rows, band: &mut [u8]) -> Result<(), Fault>
+        requires { IsBand rows band.old }
     {
         let got = system::read_full(file, band);
         if got < band.len() {
             files::rest(file).map_err(|_| Fault::Unreadable)?;
-            return Err(Fault::TooShort(first + (got / row) as u32));
+            return Err(Fault::TooShort(rows.first + (got / rows.long) as u32));
         }
-        self.check(first, rows, band)
+        self.check(rows, band)
     }
 
-    // A page composed, and written to an open file.
-    pub fn write_page<F: Write>(&self, file: &mut F, buf: &mut [u8]) -> Result<(), Fault> {
+    // The page from its first row to its last, in bands of as many rows as the buffer holds.
+    fn each_band<F: FnMut(Rows, &mut [u8]) -> Result<(), Fault>>(
+        &self,
+        buf: &mut [u8],
+        mut step: F,
+    ) -> Result<(), Fault>
+        requires { (s : F) (rows : Rows) (band : _) → IsBand rows band.now → F.pre s rows band }
+    {
         let Size { w, h } = self.size;
         if w == 0 {
             return Err(Fault::Refused(Refusal::EmptyPage));
         }
-        let row = 4 * w as usize;
-        let most = buf.len() / row;
+        let long = 4 * w as usize;
+        let most = buf.len() / long;
         if most == 0 {
             return Err(Fault::NoRoom);
         }
         for first in (0..h).step_by(most) {
-            let rows = rows_at_once(buf.len(), row, h - first);
-            let long = row * rows as usize;
-            self.write_band(file, &mut buf[..long], first, rows)?;
+            let count = rows_at_once(buf.len(), long, h - first);
+            let end = long * count as usize;
+            step(Rows { long, first, count }, &mut buf[..end])?;
         }
         Ok(())
     }
 
+    // A page composed, and written to an open file.
+    pub fn write_page<F: Write>(&self, file: &mut F, buf: &mut [u8]) -> Result<(), Fault> {
+        self.each_band(buf, |rows, band| {
+            self.compose(rows, band)?;
+            file.write_all(band).map_err(|_| Fault::Unwritten)
+        })
+    }
+
     // The bytes of an open file, which has to be as long as the page.
     pub fn check_page<F: Read>(&self, file: &mut F, buf: &mut [u8]) -> Result<(), Fault> {
-        let Size { w, h } = self.size;
-        if w == 0 {
-            return Err(Fault::Refused(Refusal::EmptyPage));
-        }
-        let row = 4 * w as usize;
-        let most = buf.len() / row;
-        if most == 0 {
-            return Err(Fault::NoRoom);
-        }
-        for first in (0..h).step_by(most) {
-            let rows = rows_at_once(buf.len(), row, h - first);
-            let long = row * rows as usize;
-            self.check_band(file, &mut buf[..long], row, first, rows)?;
-        }
+        self.each_band(
+            buf,
+            |rows, band|
+                requires { IsBand rows band.old }
+            { self.check_band(file, rows, band) },
+        )?;
         if files::rest(file).map_err(|_| Fault::Unreadable)? {
             return Err(Fault::TooLong);
         }

@@ -6,7 +6,7 @@ use crate::{page_folder, placing, preparing, system, telling};
 use records::layout::Layout;
 use std::alloc::AllocError;
 use std::rt::{Env, Files};
-use std::str;
+use std::{fs, str};
 
 #[derive(Clone, Copy)]
 pub enum Program {
@@ -46,7 +46,8 @@ fn do_pages(
     let files = PageFolder { name, pages };
     let good = match program {
         Program::Pack => {
-            let _ = std::fs::create_dir(rt, name);
+            // A folder that is there already stays.
+            let _ = fs::create_dir(rt, name);
             files.pack(rt, &mut buf)?
         }
         Program::Verify => files.verify_all(rt, &mut buf)?,
@@ -96,7 +97,7 @@ fn run_job(rt: &(impl Files + Print + AllocGlobal), program: Program, names: Nam
         }
         Err(failed) => {
             if let Failed::NoMemory = failed {
-                telling::say_of(rt, names.job, "finds no memory");
+                telling::say_of(rt, names.job, "there is no memory for its pages");
             }
             telling::say_of(rt, names.job, bad);
         }
@@ -115,7 +116,7 @@ fn say_usage(rt: &impl Print, program: Program) {
 
 pub fn run(rt: &(impl Files + Env + Print + AllocGlobal), program: Program) {
     let Ok(arguments) = system::arguments(rt) else {
-        let _ = println!(rt; "the arguments find no memory");
+        let _ = println!(rt; "there is no memory for the arguments");
         return;
     };
     let jobs = arguments.get(1..).unwrap_or(&[]);

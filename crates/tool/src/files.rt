@@ -25,7 +25,7 @@ impl Display for Unread {
             Unread::Missing => write!(f, "cannot be opened"),
             Unread::Unreadable => write!(f, "cannot be read"),
             Unread::TooLong(limit) => write!(f, "is longer than {limit} bytes"),
-            Unread::NoMemory => write!(f, "finds no memory to be read into"),
+            Unread::NoMemory => write!(f, "there is no memory to read it"),
         }
     }
 }

@@ -34,10 +34,12 @@ pub struct PageFolder<'a> {
 
 impl PageFolder<'_> {
     // Whether all went well: what is done with each page, and with each number that the job has no page for. A layout has at most 8 pages.
-    fn each_page(
+    fn each_page<F: FnMut(Page, Option<Sheet<'_>>) -> Result<bool, AllocError>>(
         &self,
-        mut step: impl FnMut(Page, Option<Sheet<'_>>) -> Result<bool, AllocError>,
-    ) -> Result<bool, AllocError> {
+        mut step: F,
+    ) -> Result<bool, AllocError>
+        requires { F.IsAlwaysCallable step }
+    {
         let mut good = true;
         for n in 0..8 {
             let page = Page(n);
@@ -114,7 +116,7 @@ impl PageFolder<'_> {
     }
 
     // The pages are put in their places only once all are written and read back, and else the pages of an earlier run stay.
-    pub fn pack(
+    pub(crate) fn pack(
         &self,
         rt: &(impl Files + Print + AllocGlobal),
         buf: &mut [u8],
@@ -141,7 +143,7 @@ impl PageFolder<'_> {
         written
     }
 
-    pub fn verify_all(
+    pub(crate) fn verify_all(
         &self,
         rt: &(impl Files + Print + AllocGlobal),
         buf: &mut [u8],
@@ -153,7 +155,9 @@ impl PageFolder<'_> {
     }
 }
 
-pub fn count_pages(l: &Layout) -> usize {
+pub fn count_pages(l: &Layout) -> usize
+    ensures { result ≤ 8 }
+{
     (0..8)
         .filter(|n| size_of_page(l, Page(*n)).is_some())
         .count()

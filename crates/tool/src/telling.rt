@@ -10,7 +10,7 @@ pub fn say(rt: &impl Print, bytes: &[u8]) {
 }
 
 // A line that begins with a name: pump.job: NOT PACKED
-pub fn say_of(rt: &impl Print, name: &[u8], what: impl Display + Drop) {
+pub(crate) fn say_of(rt: &impl Print, name: &[u8], what: impl Display + Drop) {
     say(rt, name);
     let _ = println!(rt; ": {what}");
 }
