@@ -43,8 +43,6 @@ pub fn write_file(
     let written = sheet.write_page(&mut file, buf);
     let closed = system::close_written(file);
     written?;
-    if !closed {
-        return Err(Fault::Unwritten);
-    }
+    closed.map_err(|_| Fault::Unwritten)?;
     check_file(rt, path, buf, sheet)
 }

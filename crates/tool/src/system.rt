@@ -6,7 +6,7 @@ use std::env::FillError;
 use std::fs::OpenFile;
 use std::io::{ErrorKind, Read};
 use std::rt::{Env, Files};
-use std::{fs, str};
+use std::{fs, io, str};
 
 // Reads until the buffer is full, the file ends or a read fails, and answers how many bytes are in the front of the buffer: std's read_exact does not
 // say how many it read.
@@ -30,12 +30,12 @@ pub fn open_read<R: Files>(rt: &R, path: &[u8]) -> Option<R::File> {
     fs::open(rt, name).ok()
 }
 
-// Closes a file that was written, and answers whether all of it has reached the file. std says no error of a close, so the file is synced before it,
+// Closes a file that was written; an error says that not all of it has reached the file. std says no error of a close, so the file is synced before it,
 // which finds what a close would find; a file of a kind that is never synced counts as written.
-pub fn close_written<F: OpenFile + Drop>(file: F) -> bool {
+pub fn close_written<F: OpenFile + Drop>(file: F) -> io::Result<()> {
     match file.sync_all() {
-        Ok(()) => true,
-        Err(error) => error.kind() == ErrorKind::InvalidInput,
+        Err(error) if error.kind() == ErrorKind::InvalidInput => Ok(()),
+        synced => synced,
     }
 }
 
