@@ -1,12 +1,7 @@
--- Words of the code that looks for the trim box: an image as lines, columns or rows, and a line as bytes one step apart.
+-- Words of the code that looks for the trim box: a line as bytes one step apart, and a test of numbers in order.
 -- Assumes nothing.
-use Rattle.std.specs.Prelude.{ℕ, ◌+◌, ◌*◌, ◌^◌, ◌<◌, Bool, not, List, length, get_or, eqb}
+use Rattle.std.specs.Prelude.{ℕ, ◌+◌, ◌*◌, ◌^◌, ◌<◌, ◌≡◌, Bool, not, List, length, get_or, eqb}
 use Rattle.geometry.specs.Words.{from, any}
-use Rattle.art.specs.Stores.{Stores}
-use Rattle.art.specs.Trimming.{column_visible, row_visible}
-use Rattle.art.specs.declared.memory_rgba8_texture.Image.{Image}
-use Rattle.art.specs.declared.trim.Lines.{Lines}
-use Rattle.art.specs.declared.trim.Lines.TheVariants.{Columns, Rows}
 
 -- of bytes that start at `first` and lie `step` apart: number k is not 0, and one of the first n is not
 unfoldable pub is_set : List ℕ → ℕ → ℕ → ℕ → Bool
@@ -20,10 +15,6 @@ pub record HasRun (bytes : List ℕ) (first step n : ℕ) : Type 0 where
   pub ends : first + n * step < length bytes + step
   pub step_fits : step < 2 ^ 63
 
-abbrev pub lines_of : Lines → Image → ℕ
-lines_of Columns i = i.w
-lines_of Rows i = i.h
-
-abbrev pub line_visible : Lines → Stores → Image → ℕ → Bool
-line_visible Columns s i = column_visible s i
-line_visible Rows s i = row_visible s i
+-- a test of the numbers below n answers as t does
+abbrev pub Tells : (ℕ → Bool → Type 0) → (ℕ → Bool) → ℕ → Type 0
+Tells answers t n = (k : ℕ) (r : Bool) → k < n → answers k r → r ≡ t k

@@ -21,14 +21,10 @@ fn all_zero(bytes: &[u8], first: usize, step: usize, count: usize) -> bool
     requires { HasRun bytes.now first step count }
     ensures { result ≡ not (any_set bytes.now first step count) }
 {
-    let mut at = first;
-    let mut k = 0;
-    while k < count {
-        if bytes[at] != 0 {
+    for k in 0..count {
+        if bytes[first + k * step] != 0 {
             return false;
         }
-        at += step;
-        k += 1;
     }
     true
 }

@@ -1,6 +1,6 @@
 -- From an answer back to the row: what holds where a number is answered, and where none is. Assumes nothing.
 use Rattle.std.specs.Prelude.{Err, Ok}
-use Prim.Native.Nat.{ℕ, ◌+◌, ◌≤◌, ◌<◌}
+use Prim.Native.Nat.{◌+◌, ◌≤◌, ◌<◌}
 use native.Mathlib.Omega.{arith}
 use mathlib.Core.Path.{◌≡◌, refl}
 use mathlib.Core.Bool.{true, false, not}
@@ -34,17 +34,17 @@ use Rattle.coords.proofs.Answers.{named_in, named-good}
 
 refused_by : {r : Refusal} (q : Request) (f : Rect) (s : Size) (o : Option Refusal) → locate_answer (wanted q f s) o ≡ Err r → o ≡ some r
 refused_by q f s (some n) e = cc
-refused_by AskPixels f s none e = let z : ◌≡◌ {A = ℕ} 0 1 = cc in absurd (omega arith)
-refused_by Edges f s none e = let z : ◌≡◌ {A = ℕ} 0 1 = cc in absurd (omega arith)
-refused_by (Inset i) f s none e = let z : ◌≡◌ {A = ℕ} 0 1 = cc in absurd (omega arith)
+refused_by AskPixels f s none e = absurd cc
+refused_by Edges f s none e = absurd cc
+refused_by (Inset i) f s none e = absurd cc
 
 pixels_by : {f : Rect} (a : Position) (o : Option Refusal) → locate_answer a o ≡ Ok (Pixels f) → (o ≡ none) × (a ≡ Pixels f)
 pixels_by a none e = (refl, cc)
-pixels_by a (some r) e = let z : ◌≡◌ {A = ℕ} 0 1 = cc in absurd (omega arith)
+pixels_by a (some r) e = absurd cc
 
 texels_by : {c : Corners} (a : Position) (o : Option Refusal) → locate_answer a o ≡ Ok (Texels c) → (o ≡ none) × (a ≡ Texels c)
 texels_by a none e = (refl, cc)
-texels_by a (some r) e = let z : ◌≡◌ {A = ℕ} 0 1 = cc in absurd (omega arith)
+texels_by a (some r) e = absurd cc
 
 module _ (l : Layout) (k : Key) (q : Request) where
   pub refusal_of : {r : Refusal} → located l k q ≡ Err r → locate_refusal l k q ≡ some r

@@ -1,7 +1,5 @@
 -- The numbers and values of an answer tell it from every other: by their bits, which tell two f32 apart. Assumes nothing.
 use Rattle.std.specs.Prelude.{Err, Ok}
-use Prim.Native.Nat.{ℕ}
-use native.Mathlib.Omega.{arith}
 use mathlib.Core.Path.{◌≡◌, sym, ap, ◌∙◌}
 use mathlib.Core.Option.{Option, none, some}
 use lib.Dec.{T}
@@ -66,9 +64,9 @@ located_tells (Ok (Pixels f)) (Ok (Pixels g)) p q e =
     let w : f.w ≡ g.w = cc in
     let h : f.h ≡ g.h = cc in
     λ i. Ok (Pixels (record { x = x i; y = y i; w = w i; h = h i }))
-located_tells (Ok (Pixels f)) (Ok (Texels c)) p q e = let z : ◌≡◌ {A = ℕ} 0 1 = cc in absurd (omega arith)
+located_tells (Ok (Pixels f)) (Ok (Texels c)) p q e = absurd cc
 located_tells (Ok (Pixels f)) (Err r) p q e = let z : number_of r ≡ 0 = cc in absurd (number-some r z)
-located_tells (Ok (Texels c)) (Ok (Pixels f)) p q e = let z : ◌≡◌ {A = ℕ} 0 1 = cc in absurd (omega arith)
+located_tells (Ok (Texels c)) (Ok (Pixels f)) p q e = absurd cc
 located_tells (Ok (Texels c)) (Ok (Texels d)) p q e =
     let left = bits_tell c.left d.left p.left q.left (cc) in
     let top = bits_tell c.top d.top p.top q.top (cc) in

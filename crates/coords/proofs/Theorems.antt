@@ -1,7 +1,5 @@
 -- What document 01 says of coordinates, each theorem under the sentence that it carries. Assumes nothing.
 use Rattle.std.specs.Prelude.{Err, Ok}
-use Prim.Native.Nat.{ℕ}
-use native.Mathlib.Omega.{arith}
 use mathlib.Core.Path.{◌≡◌, refl, sym, ap, ◌∙◌, subst}
 use mathlib.Core.Bool.{Bool, true, false, not}
 use mathlib.Core.List.{List, [], ◌∷◌, Memᴰ}
@@ -205,7 +203,7 @@ never_nan l k q c e = go q refl (texels_of l k q e).1
         subst AreNumbers d (corners-numbers (record_named l k).frame (named_page_size l k) (countable l k at.formed at.stands) s.wide s.tall i f)
 
     go : (r : Request) → q ≡ r → wanted r (record_named l k).frame (named_page_size l k) ≡ Texels c → AreNumbers c
-    go AskPixels y w = let z : ◌≡◌ {A = ℕ} 0 1 = cc in absurd (omega arith)
+    go AskPixels y w = absurd cc
     go Edges y w = numbers nought refl (sym (ap (λ (r : Request). out_of_page r (record_named l k).frame (named_page_size l k)) y) ∙ at.page) (cc)
     go (Inset i) y w =
         numbers i (between-finite i (not-false _ (sym (ap bad_inset y) ∙ at.inset))) (sym (ap (λ (r : Request). out_of_page r (record_named l k).frame (named_page_size l k)) y) ∙ at.page) (cc)

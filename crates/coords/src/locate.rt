@@ -75,6 +75,7 @@ fn past_edge(f: Rect, s: Size) -> bool
 }
 
 // 16, then the corners.
+#[tactic(auto, using(crate::proofs::Answers::texels_past, crate::proofs::Answers::texels_in))]
 fn texels(f: Rect, s: Size, i: f32) -> Located
     requires { Countable f s }
     ensures { result ≡ texel_answer f s i }

@@ -127,12 +127,12 @@ upright_allowed false = Memᴰ.head refl
 turned_allowed : (rotation : Bool) → rotation ≡ true → Memᴰ Turned (orientations rotation)
 unfolding orientations
 turned_allowed true e = Memᴰ.tail (Memᴰ.head refl)
-turned_allowed false e = let z : ◌≡◌ {A = ℕ} 0 1 = cc in absurd (omega arith)
+turned_allowed false e = absurd cc
 
 pub allowed_turned : (rotation : Bool) → Memᴰ Turned (orientations rotation) → rotation ≡ true
 unfolding orientations
 allowed_turned true m = refl
-allowed_turned false m = let e = Memᴰ.eq_of_singleton m in let z : ◌≡◌ {A = ℕ} 0 1 = cc in absurd (omega arith)
+allowed_turned false m = let e = Memᴰ.eq_of_singleton m in absurd cc
 
 -- a cell at column 0 of an empty area
 at_zero : (area : Size) (rotation : Bool) (cell : Size) (t : Turn) → Memᴰ t (orientations rotation) → 0 < (lying t cell).w

@@ -51,7 +51,7 @@ leads a b p q h = go (ltb a b) refl (eqb a b) refl h
     go : (t : Bool) → ltb a b ≡ t → (u : Bool) → eqb a b ≡ u → (t || (u && before p q)) ≡ true → (a < b) ⊎ ((a ≡ b) × (before p q ≡ true))
     go true et u eu k = inl (ltb-true a b et)
     go false et true eu k = inr (eqb-true a b eu, k)
-    go false et false eu k = let y : ◌≡◌ {A = ℕ} 0 1 = cc in absurd (omega arith)
+    go false et false eu k = absurd cc
 
 led : (a b : ℕ) (p q : List ℕ) → (a < b) ⊎ ((a ≡ b) × (before p q ≡ true)) → before (a ∷ p) (b ∷ q) ≡ true
 unfolding before
@@ -60,9 +60,9 @@ led a b p q (inr (e, h)) = before_same a b p q e ∙ h
 
 before_trans : (p q r : List ℕ) → before p q ≡ true → before q r ≡ true → before p r ≡ true
 unfolding before
-before_trans [] q r h k = let y : ◌≡◌ {A = ℕ} 0 1 = cc in absurd (omega arith)
-before_trans (a ∷ p) [] r h k = let y : ◌≡◌ {A = ℕ} 0 1 = cc in absurd (omega arith)
-before_trans (a ∷ p) (b ∷ q) [] h k = let y : ◌≡◌ {A = ℕ} 0 1 = cc in absurd (omega arith)
+before_trans [] q r h k = absurd cc
+before_trans (a ∷ p) [] r h k = absurd cc
+before_trans (a ∷ p) (b ∷ q) [] h k = absurd cc
 before_trans (a ∷ p) (b ∷ q) (d ∷ r) h k = go (leads a b p q h) (leads b d q r k) (λ x y. before_trans p q r x y)
   where
     go : (a < b) ⊎ ((a ≡ b) × (before p q ≡ true)) → (b < d) ⊎ ((b ≡ d) × (before q r ≡ true))
@@ -118,7 +118,7 @@ module _ (order : Spot → List ℕ) where
   }
     where
       go : (l : List Spot) (k : Spot) → (None ≡ Some k) ⊎ Memᴰ k l → Memᴰ k l
-      go l k (inl q) = let z : ◌≡◌ {A = ℕ} 0 1 = cc in absurd (omega arith)
+      go l k (inl q) = absurd cc
       go l k (inr m) = m
 
   -- ## nothing stands before the best
@@ -152,8 +152,8 @@ module _ (order : Spot → List ℕ) where
 
   better-some : (o : Option Spot) (k : Spot) → better order o k ≡ None → ⊥
   unfolding better
-  better-some None k z = let y : ◌≡◌ {A = ℕ} 0 1 = cc in omega arith
-  better-some (Some i) k z = let y : ◌≡◌ {A = ℕ} 0 1 = cc in omega arith
+  better-some None k z = cc
+  better-some (Some i) k z = cc
 
   pub best_first : (o : Option Spot) (l : List Spot) (m : Spot) → best_of order o l ≡ Some m → (j : Spot) → Memᴰ j l → before (order j) (order m) ≡ true → ⊥
   unfolding best_of

@@ -2,7 +2,6 @@
 -- Assumes nothing.
 use Rattle.std.specs.Prelude.{Option, Some, None}
 use Prim.Native.Nat.{ℕ, ◌+◌, ◌≤◌}
-use native.Mathlib.Omega.{arith}
 use mathlib.Core.Path.{◌≡◌, refl, sym, ◌∙◌, ap, subst}
 use mathlib.Core.Bool.{Bool, true}
 use mathlib.Core.List.Memᴰ
@@ -149,8 +148,7 @@ module _ (f : ℕ → ℕ) (area : Size) (rotation : Bool) (cell : Size) (k : Sp
   turned_differs t e =
       let w : cell.h ≡ cell.w = sym (width_is ∙ ap (λ (u : Turn). (lying u cell).w) t) ∙ e in
       let u = square_upright (sym w) in
-      let z : ◌≡◌ {A = ℕ} 0 1 = cc in
-      omega arith
+      cc
 
   pub upright_same : k.turn ≡ Upright → k.at.w ≡ cell.w
   unfolding lying

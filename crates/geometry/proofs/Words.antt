@@ -5,38 +5,34 @@ use mathlib.Core.Bool.{Bool, true, false, cond, ◌&&◌, ◌||◌}
 use mathlib.Core.List.{List, [], ◌∷◌, ◌++◌}
 use native.Mathlib.Omega.{arith}
 use mathlib.Core.Option.{none, some}
+use Rattle.std.proofs.lemmas.Bool.{both_ways, and_parts, and_from, or_parts, and_left as std-and_left, and_right as std-and_right}
 use Rattle.geometry.specs.Words.{from, only, earliest, greatest}
 
 -- ## tests
 
 pub not_both : {b : Bool} → b ≡ true → b ≡ false → ⊥
-not_both p q = let z : true ≡ false = sym p ∙ q in let y : ◌≡◌ {A = ℕ} 0 1 = cc in omega arith
+not_both p q = both_ways _ q p
 
 pub and_left : (a b : Bool) → (a && b) ≡ true → a ≡ true
-and_left true b e = refl
-and_left false b e = e
+and_left a b e = (and_parts a b e).0
 
 pub and_right : (a b : Bool) → (a && b) ≡ true → b ≡ true
-and_right true b e = e
-and_right false b e = let z : true ≡ false = sym e in cc
+and_right a b e = (and_parts a b e).1
 
 pub both : {a b : Bool} → a ≡ true → b ≡ true → (a && b) ≡ true
-both p q = rw (p, q)
+both p q = and_from _ _ p q
 
 pub and_no_left : (a b : Bool) → a ≡ false → (a && b) ≡ false
-and_no_left a b p = rw p
+and_no_left = std-and_left
 
 pub and_no_right : (a b : Bool) → b ≡ false → (a && b) ≡ false
-and_no_right true b q = q
-and_no_right false b q = refl
+and_no_right = std-and_right
 
 pub or_no_left : (a b : Bool) → (a || b) ≡ false → a ≡ false
-or_no_left true b e = e
-or_no_left false b e = refl
+or_no_left a b e = (or_parts a b e).0
 
 pub or_no_right : (a b : Bool) → (a || b) ≡ false → b ≡ false
-or_no_right true b e = let z : ◌≡◌ {A = ℕ} 0 1 = cc in absurd (omega arith)
-or_no_right false b e = e
+or_no_right a b e = (or_parts a b e).1
 
 -- ## numbers in order
 

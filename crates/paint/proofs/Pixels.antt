@@ -1,7 +1,7 @@
 -- Pixels by their number, and spans of them painted one after the other. Assumes nothing.
 use Prim.Native.Nat.{ℕ, ◌+◌, ◌*◌, ◌≤◌, ◌<◌}
 use native.Mathlib.Omega.{arith}
-use native.Mathlib.Decide.{ℕ_discrete, dec_lt}
+use native.Mathlib.Decide.{ℕ_discrete}
 use mathlib.Core.Path.{◌≡◌, refl, sym, ap, ◌∙◌, subst}
 use mathlib.Core.List.{List}
 use lib.ListN.{length, get_or, set, length-set}
@@ -103,16 +103,3 @@ span_more f a e old l new k s h room is n = record {
 
 pub span_to : {f : ℕ → Pixel} {a e n : ℕ} {old new : List ℕ} → e ≡ n → SpanPainted f a e old new → SpanPainted f a n old new
 span_to {f} {a} {e} {n} {old} {new} q s = subst (λ (m : ℕ). SpanPainted f a m old new) q s
-
--- no pixel, where the end stands before the start
-pub span_empty : {f : ℕ → Pixel} {a e : ℕ} {old new : List ℕ} → e ≤ a → SpanPainted f a a old new → SpanPainted f a e old new
-span_empty {f} {a} {e} {old} {new} h s = record {
-  long = s.long;
-  inside = λ i p q. absurd (omega arith);
-  before = s.before;
-  after = λ i p. go i (dec_lt i a);
-}
-  where
-    go : (i : ℕ) → Dec (i < a) → pixel_no new i ≡ pixel_no old i
-    go i (yes b) = s.before i b
-    go i (no b) = s.after i (omega arith)

@@ -1,12 +1,14 @@
 -- Records one after the other, each painted over those accepted after it. Assumes nothing.
-use Prim.Native.Nat.{ℕ, ◌+◌, ◌*◌, ◌≤◌, ◌<◌}
+use Prim.Native.Nat.{ℕ, ◌+◌, ◌*◌, ◌<◌}
 use native.Mathlib.Omega.{arith}
 use native.Mathlib.Nat.{mul_comm}
 use mathlib.Core.Path.{◌≡◌, refl, sym, ap, ◌∙◌, subst}
 use mathlib.Core.Bool.{Bool, true, false}
-use mathlib.Core.List.{List, [], ◌∷◌, Memᴰ}
+use mathlib.Core.List.{List, [], ◌∷◌, ◌++◌, Memᴰ}
 use mathlib.Core.Option.{none}
-use lib.ListN.{length, get_or, drop, drop_of_length-le}
+use lib.ListN.{length, get_or, drop, drop_of_length-le, length-drop}
+use lib.Seq.{drop_at, get_or-drop}
+use Rattle.std.proofs.Common.{append_assoc, append-nil}
 use lib.Dec.{eqb}
 use Rattle.geometry.specs.Words.{earliest}
 use Rattle.geometry.specs.Rects.{holds_point}
@@ -20,14 +22,12 @@ use Rattle.records.specs.declared.frame.Page.{Page}
 use Rattle.records.specs.declared.frame.Record.{Record}
 use Rattle.records.specs.declared.layout.Layout.{Layout}
 use Rattle.records.proofs.Rows.{at_in}
-use Rattle.records.proofs.Standing.{rest_next, standing-long, standing-at}
 use Rattle.lookup.specs.Zones.{zone, reaches, owner, pixel_of, pixel_among, pixel_at}
 use Rattle.lookup.specs.Looking.{page_past}
 use Rattle.lookup.proofs.Looking.{page_in_store}
-use Rattle.paint.specs.Backgrounds.{composed}
+use Rattle.paint.specs.Backgrounds.{Background, composed}
 use Rattle.paint.specs.Pictures.{composed_at}
 use Rattle.paint.specs.Painting.{composed_among, composed_frame, pixel_no, SpanPainted, ZonePainted, Shows}
-use Rattle.paint.specs.declared.background.Background.{Background}
 use Rattle.paint.proofs.Frames.{row_ends}
 
 module _ (c : Config) (s : Stores) (p : Page) (g : Background) where
@@ -74,24 +74,46 @@ shows_filled c s p g rs w first n old new k none_left is long f = record {
       ∙ sym (ap (λ (qs : List Record). composed_among c s p g qs x (first + v)) none_left ∙ among_none c s p g x (first + v));
 }
 
-module _ (l : Layout) (long : length l.records ≡ 256) (few : l.count ≤ 256) where
-  -- the records from index i on are record i and those after it
-  pub standing-from : (i : ℕ) → i < l.count → drop i (standing l) ≡ get_or l.records i blank_record ∷ drop (i + 1) (standing l)
-  standing-from i h =
-      let n = standing-long l long few in
-      rest_next (λ (r : Record). true) (standing l) blank_record i (omega arith)
-      ∙ ap (λ (r : Record). r ∷ drop (i + 1) (standing l)) (standing-at l long few blank_record i h)
+-- what is left of the records, with those that were passed, are all of them; the last of what is left is the next
+module _ (l : Layout) (rest : List Record) where
+  abbrev pub Left : Type 0
+  Left = rest ++ drop (length rest) (standing l) ≡ standing l
 
-  pub standing_past : drop l.count (standing l) ≡ []
-  standing_past = let n = standing-long l long few in let h : length (standing l) ≤ l.count = omega arith in drop_of_length-le (standing l) h
+  -- all of them, before any is passed
+  pub none_passed : rest ≡ standing l → drop (length rest) (standing l) ≡ []
+  none_passed e = drop_of_length-le (standing l) (let n = ap length e in omega arith)
 
-  -- where no image of the page runs past its store, the image of record i does not
-  pub stored : (s : Stores) (p : Page) → page_past s p (standing l) ≡ false → (i : ℕ) → i < l.count
-      → eqb (get_or l.records i blank_record).page.0 p.0 ≡ true → InStore s (image_of (get_or l.records i blank_record))
-  stored s p none-past i h on =
-      let n = standing-long l long few in
-      page_in_store s p (standing l) none-past (get_or l.records i blank_record)
-      (subst (λ (r : Record). Memᴰ r (standing l)) (standing-at l long few blank_record i h) (at_in (standing l) blank_record i (omega arith))) on
+  pub all_left : rest ≡ standing l → Left
+  all_left e = ap (λ (qs : List Record). rest ++ qs) (none_passed e) ∙ append-nil rest ∙ e
+
+  module _ (before : List Record) (r : Record) (is-last : rest ≡ before ++ r ∷ []) (left : Left) where
+    split : before ++ r ∷ drop (length rest) (standing l) ≡ standing l
+    split = sym (append_assoc before (r ∷ []) (drop (length rest) (standing l))) ∙ ap (λ (qs : List Record). qs ++ drop (length rest) (standing l)) (sym is-last) ∙ left
+
+    -- that record, and those that were passed
+    pub last_next : drop (length before) (standing l) ≡ r ∷ drop (length rest) (standing l)
+    last_next = ap (drop (length before)) (sym split) ∙ drop_at before (r ∷ drop (length rest) (standing l)) (length before) refl
+
+    pub last_left : before ++ drop (length before) (standing l) ≡ standing l
+    last_left = ap (λ (qs : List Record). before ++ qs) last_next ∙ split
+
+    pub last_below : length before < length (standing l)
+    last_below = let n = ap length last_next in let m = length-drop (length before) (standing l) in omega arith
+
+    pub last_is : get_or (standing l) (length before) blank_record ≡ r
+    last_is =
+        ap (λ (i : ℕ). get_or (standing l) i blank_record) (plus_zero (length before))
+        ∙ sym (get_or-drop (length before) (standing l) 0 blank_record)
+        ∙ ap (λ (qs : List Record). get_or qs 0 blank_record) last_next
+      where
+        plus_zero : (i : ℕ) → i ≡ i + 0
+        plus_zero i = omega arith
+
+    -- where no image of the page runs past its store, that record's does not
+    pub last_stored : (s : Stores) (p : Page) → page_past s p (standing l) ≡ false → eqb r.page.0 p.0 ≡ true → InStore s (image_of r)
+    last_stored s p none-past on =
+        page_in_store s p (standing l) none-past r
+        (subst (λ (q : Record). Memᴰ q (standing l)) last_is (at_in (standing l) blank_record (length before) last_below)) on
 
 -- the records given another way
 pub shows_records : (c : Config) (s : Stores) (p : Page) (g : Background) {rs qs : List Record} {w first n : ℕ} {l : List ℕ} → rs ≡ qs

@@ -10,8 +10,7 @@ use Rattle.records.specs.declared.texture_packer_config.Config.{Config}
 use Rattle.records.specs.declared.frame.Page.{Page}
 use Rattle.records.specs.declared.frame.Record.{Record}
 use Rattle.lookup.specs.Zones.{frame_pixel, pixel_among}
-use Rattle.paint.specs.Backgrounds.{composed}
-use Rattle.paint.specs.declared.background.Background.{Background}
+use Rattle.paint.specs.Backgrounds.{Background, composed}
 
 -- what composing gives a page on which these stand, and a frame
 abbrev pub composed_among : Config → Stores → Page → Background → List Record → ℕ → ℕ → Pixel

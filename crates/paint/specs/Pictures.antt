@@ -8,8 +8,7 @@ use Rattle.records.specs.Layouts.{size_of_page}
 use Rattle.records.specs.declared.frame.Page.{Page}
 use Rattle.records.specs.declared.layout.Layout.{Layout}
 use Rattle.lookup.specs.Zones.{pixel_at}
-use Rattle.paint.specs.Backgrounds.{composed}
-use Rattle.paint.specs.declared.background.Background.{Background}
+use Rattle.paint.specs.Backgrounds.{Background, composed}
 
 -- 4 bytes a pixel, R G B A
 unfoldable pub bytes : Pixel → List ℕ

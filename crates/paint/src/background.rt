@@ -1,35 +1,31 @@
 // Backgrounds, after BackgroundColorSettings and image_exporter.rs of texture_packer.
-ghost use Rattle.std.specs.Prelude.{◌≡◌};
+ghost use Rattle.std.specs.Prelude.{◌≡◌, Some};
 ghost use Rattle.std.proofs.Math.Option.{none, some};
 ghost use Rattle.paint.specs.Backgrounds.{solid, composed};
-ghost use Rattle.paint.specs.declared.background.Background.TheVariants.{Colour};
 
 use art::memory_rgba8_texture::Pixel;
 
+// A colour, an optional threshold, and the discard switch.
 #[derive(Clone, Copy)]
-pub enum Threshold {
-    Unset,
-    AtMost(u8),
+pub struct Colour {
+    pub pixel: Pixel,
+    pub threshold: Option<u8>,
+    pub discard: bool,
 }
 
-// None; or a colour, an optional threshold, and the discard switch.
-#[derive(Clone, Copy)]
-pub enum Background {
-    Clear,
-    Colour(Pixel, Threshold, bool),
-}
+pub type Background = Option<Colour>;
 
 pub fn without_pixel(g: Background) -> Pixel
     ensures { result ≡ composed g none }
 {
     match g {
-        Background::Clear => Pixel {
+        None => Pixel {
             r: 0,
             g: 0,
             b: 0,
             a: 0,
         },
-        Background::Colour(colour, _, _) => colour,
+        Some(colour) => colour.pixel,
     }
 }
 
@@ -47,16 +43,16 @@ fn solid_if(discard: bool, k: Pixel) -> Pixel
     k
 }
 
-fn over_colour(colour: Pixel, threshold: Threshold, discard: bool, k: Pixel) -> Pixel
-    ensures { result ≡ composed (Colour colour threshold discard) (some k) }
+fn over_colour(colour: Colour, k: Pixel) -> Pixel
+    ensures { result ≡ composed (Some colour) (some k) }
 {
-    match threshold {
-        Threshold::Unset => k,
-        Threshold::AtMost(t) => {
+    match colour.threshold {
+        None => k,
+        Some(t) => {
             if k.a <= t {
-                return colour;
+                return colour.pixel;
             }
-            solid_if(discard, k)
+            solid_if(colour.discard, k)
         }
     }
 }
@@ -65,9 +61,7 @@ pub fn with_pixel(g: Background, k: Pixel) -> Pixel
     ensures { result ≡ composed g (some k) }
 {
     match g {
-        Background::Clear => k,
-        Background::Colour(colour, threshold, discard) => {
-            over_colour(colour, threshold, discard, k)
-        }
+        None => k,
+        Some(colour) => over_colour(colour, k),
     }
 }

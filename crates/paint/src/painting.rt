@@ -12,7 +12,7 @@ ghost use Rattle.paint.specs.Painting.{composed_among, composed_frame, with_pixe
 
 use crate::background;
 use crate::background::Background;
-use art::memory_rgba8_texture::Pixel;
+use art::memory_rgba8_texture::{Pixel, Stores};
 use lookup::texture_packer;
 use records::frame::{Page, Record};
 use records::layout::Layout;
@@ -34,18 +34,15 @@ fn fill(bytes: &mut [u8], pixels: usize, k: Pixel)
     requires { 4 * pixels ≤ length bytes.old }
     ensures { SpanPainted (λ i. k) 0 pixels bytes.old bytes.new }
 {
-    let mut i = 0;
-    while i < pixels {
+    for i in 0..pixels {
         put_pixel(bytes, i, k);
-        i += 1;
     }
 }
 
 // A row of a frame's zone: columns `from` to `end`, where pixel number `base` of the band is the row's column 0.
-fn paint_span<'a>(
+fn paint_span(
     bytes: &mut [u8],
-    symbols: &'a [u8],
-    wording: &'a [u8],
+    stores: Stores<'_>,
     c: Config,
     g: Background,
     r: Record,
@@ -54,36 +51,21 @@ fn paint_span<'a>(
     from: u32,
     end: u32,
 )
-    requires in_store { InStore (lent symbols.now wording.now) (image_of r) × (record_well_formed c r ≡ true) }
+    requires in_store { InStore (lent stores) (image_of r) × (record_well_formed c r ≡ true) }
     requires end_in_bounds { 4 * (base + end) ≤ length bytes.old }
-    ensures { SpanPainted (λ i. composed_frame c (lent symbols.now wording.now) g r (i - base) y)
+    ensures { SpanPainted (λ i. composed_frame c (lent stores.entry) g r (i - base) y)
         (base + from) (base + end) bytes.old bytes.new }
 {
-    let mut x = from;
-    while x < end {
-        let k = texture_packer::frame_pixel(symbols, wording, c, r, x, y);
+    for x in from..end {
+        let k = texture_packer::frame_pixel(stores, c, r, x, y);
         put_pixel(bytes, base + x as usize, background::with_pixel(g, k));
-        x += 1;
     }
 }
 
-fn least(a: u32, b: u32) -> u32
-    ensures { result ≡ min a b }
-{
-    if a < b { a } else { b }
-}
-
-fn most(a: u32, b: u32) -> u32
-    ensures { result ≡ max a b }
-{
-    if a < b { b } else { a }
-}
-
 // A frame's zone, as far as it lies in the band: `rows` rows of w pixels, the first of them row `first` of the page.
-fn paint_frame<'a>(
+fn paint_frame(
     bytes: &mut [u8],
-    symbols: &'a [u8],
-    wording: &'a [u8],
+    stores: Stores<'_>,
     c: Config,
     g: Background,
     r: Record,
@@ -91,26 +73,24 @@ fn paint_frame<'a>(
     first: u32,
     rows: u32,
 )
-    requires in_store { InStore (lent symbols.now wording.now) (image_of r) × (in_bounds c ≡ true) × (record_well_formed c r ≡ true) }
+    requires in_store { InStore (lent stores) (image_of r) × (in_bounds c ≡ true) × (record_well_formed c r ≡ true) }
     requires rows_bound { (first + rows ≤ 6271) × (length bytes.old ≡ 4 * (w * rows)) }
-    ensures { ZonePainted (composed_frame c (lent symbols.now wording.now) g r)
+    ensures { ZonePainted (composed_frame c (lent stores.entry) g r)
         (zone c r) w first rows bytes.old bytes.new }
 {
     let z = texture_packer::zone_of(c, r);
-    let end = least(w, z.x + z.w);
-    let stop = least(first + rows, z.y + z.h);
-    let mut y = most(first, z.y);
-    while y < stop {
+    let end = w.min(z.x + z.w);
+    let start = first.max(z.y);
+    let stop = (first + rows).min(z.y + z.h);
+    for y in start..stop {
         let base = (y - first) as usize * w as usize;
-        paint_span(bytes, symbols, wording, c, g, r, y, base, z.x, end);
-        y += 1;
+        paint_span(bytes, stores, c, g, r, y, base, z.x, end);
     }
 }
 
-fn paint_record<'a>(
+fn paint_record(
     bytes: &mut [u8],
-    symbols: &'a [u8],
-    wording: &'a [u8],
+    stores: Stores<'_>,
     c: Config,
     g: Background,
     page: Page,
@@ -119,39 +99,35 @@ fn paint_record<'a>(
     first: u32,
     rows: u32,
 )
-    requires in_store { (eqb r.page.0 page.0 ≡ true → InStore (lent symbols.now wording.now) (image_of r)) × (in_bounds c ≡ true) × (record_well_formed c r ≡ true) }
+    requires in_store { (eqb r.page.0 page.0 ≡ true → InStore (lent stores) (image_of r)) × (in_bounds c ≡ true) × (record_well_formed c r ≡ true) }
     requires rows_bound { (first + rows ≤ 6271) × (length bytes.old ≡ 4 * (w * rows)) }
-    ensures { (rs : List Record) → Shows (composed_among c (lent symbols.now wording.now) page g rs) w first rows bytes.old →
-        Shows (composed_among c (lent symbols.now wording.now) page g (r ∷ rs)) w first rows bytes.new }
+    ensures { (rs : List Record) → Shows (composed_among c (lent stores.entry) page g rs) w first rows bytes.old →
+        Shows (composed_among c (lent stores.entry) page g (r ∷ rs)) w first rows bytes.new }
 {
-    if r.page.0 == page.0 {
-        paint_frame(bytes, symbols, wording, c, g, r, w, first, rows);
+    if r.page == page {
+        paint_frame(bytes, stores, c, g, r, w, first, rows);
     }
 }
 
 // `rows` rows of a page that is w pixels wide, from row `first` on.
-pub fn paint_band<'a>(
+pub fn paint_band(
     bytes: &mut [u8],
     l: Layout,
-    symbols: &'a [u8],
-    wording: &'a [u8],
+    stores: Stores<'_>,
     page: Page,
     g: Background,
     w: u32,
     first: u32,
     rows: u32,
 )
-    requires l_value { (well_formed l ≡ true) × (page_past (lent symbols.now wording.now) page (standing l) ≡ false) }
+    requires l_value { (well_formed l ≡ true) × (page_past (lent stores) page (standing l) ≡ false) }
     requires rows_bound { (first + rows ≤ 6271) × (w ≤ 6271) × (length bytes.old ≡ 4 * (w * rows)) }
-    ensures { bytes.new ≡ picture (composed_at l (lent symbols.now wording.now) page g) w first rows }
+    ensures { bytes.new ≡ picture (composed_at l (lent stores.entry) page g) w first rows }
 {
     let c = l.config;
     let k = background::without_pixel(g);
     fill(bytes, w as usize * rows as usize, k);
-    let mut i = l.count;
-    while 0 < i {
-        i -= 1;
-        let r = l.records[i];
-        paint_record(bytes, symbols, wording, c, g, page, r, w, first, rows);
+    for r in l.records[..l.count].iter().rev() {
+        paint_record(bytes, stores, c, g, page, *r, w, first, rows);
     }
 }

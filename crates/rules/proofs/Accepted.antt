@@ -218,7 +218,7 @@ earliest-all {A} t (y ∷ ys) e x m = go (t y) refl e m (λ h n. earliest-all t 
   where
     go : (b : Bool) → t y ≡ b → cond b (some y) (earliest t ys) ≡ none → Memᴰ x (y ∷ ys)
         → (earliest t ys ≡ none → Memᴰ x ys → t x ≡ false) → t x ≡ false
-    go true q h n f = let z : ◌≡◌ {A = ℕ} 0 1 = cc in absurd (omega arith)
+    go true q h n f = absurd cc
     go false q h (Memᴰ.head z) f = ap t z ∙ q
     go false q h (Memᴰ.tail n) f = f h n
 

@@ -33,8 +33,8 @@ module _ (l : Layout) (p : Page) (s : Size) where
   ask-refused r e = go (fits_page l p s) (ask_refusal l p s) e
     where
       go : (b : Bool) (o : Option Refusal) → ask_answer b o ≡ Err r → o ≡ some r
-      go true none q = let z : ◌≡◌ {A = ℕ} 0 1 = cc in absurd (omega arith)
-      go false none q = let z : ◌≡◌ {A = ℕ} 0 1 = cc in absurd (omega arith)
+      go true none q = absurd cc
+      go false none q = absurd cc
       go b (some n) q = let z : n ≡ r = cc in ap some z
 
   refused-ask : (r : Refusal) → ask_refusal l p s ≡ some r → asked l p s ≡ Err r
@@ -66,7 +66,7 @@ module _ (l : Layout) (s : Stores) (k : Key) (i : Image) where
         where
           never : {r : Record} → none ≡ some r → ◌≡◌ {A = ℕ} 0 1
           never w = cc
-      go none f (some q) g h = let z : ◌≡◌ {A = ℕ} 0 1 = cc in absurd (omega arith)
+      go none f (some q) g h = absurd cc
       go (some n) f q g h = let z : n ≡ r = cc in ap some z
 
   pub refused-offer : (r : Refusal) → offer_refusal l s k i ≡ some r → offered l s k i ≡ record { answer = Err r; layout = l }
@@ -93,7 +93,7 @@ module _ (l : Layout) where
   withdraw_refused r e = go (withdraw_refusal l) e
     where
       go : (o : Option Refusal) → (withdraw_answer l o).answer ≡ Err r → o ≡ some r
-      go none q = let z : ◌≡◌ {A = ℕ} 0 1 = cc in absurd (omega arith)
+      go none q = absurd cc
       go (some n) q = let z : n ≡ r = cc in ap some z
 
   pub refused_withdraw : (r : Refusal) → withdraw_refusal l ≡ some r → withdrawn l ≡ record { answer = Err r; layout = l }
@@ -116,9 +116,9 @@ module _ (l : Layout) where
 
 pub asked_tells : (a b : Asked) → asked_numbers a ≡ asked_numbers b → a ≡ b
 asked_tells (Ok true) (Ok true) e = refl
-asked_tells (Ok true) (Ok false) e = let z : ◌≡◌ {A = ℕ} 1 0 = cc in absurd (omega arith)
+asked_tells (Ok true) (Ok false) e = absurd cc
 asked_tells (Ok true) (Err r) e = let z : 0 ≡ number_of r = cc in absurd (number-some r (sym z))
-asked_tells (Ok false) (Ok true) e = let z : ◌≡◌ {A = ℕ} 0 1 = cc in absurd (omega arith)
+asked_tells (Ok false) (Ok true) e = absurd cc
 asked_tells (Ok false) (Ok false) e = refl
 asked_tells (Ok false) (Err r) e = let z : 0 ≡ number_of r = cc in absurd (number-some r (sym z))
 asked_tells (Err r) (Ok true) e = let z : number_of r ≡ 0 = cc in absurd (number-some r z)

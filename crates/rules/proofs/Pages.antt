@@ -76,7 +76,7 @@ past_empty c rs p h = ap (map (cell_of c)) (none_on rs p (λ r m. let g = page-b
 
 pub earliest-found : {A : Type 0} (t : A → Bool) (l : List A) {x : A} → earliest t l ≡ some x → Memᴰ x l × (t x ≡ true)
 unfolding earliest
-earliest-found t [] e = let z : ◌≡◌ {A = ℕ} 0 1 = cc in absurd (omega arith)
+earliest-found t [] e = absurd cc
 earliest-found {A} t (y ∷ ys) {x} e = go (t y) refl e (λ h. earliest-found t ys h)
   where
     go : (b : Bool) → t y ≡ b → cond b (some y) (earliest t ys) ≡ some x → (earliest t ys ≡ some x → Memᴰ x ys × (t x ≡ true))
@@ -122,7 +122,7 @@ placed_at c rs a {r} e = go (spot_on c (cells_on c rs (page_for c rs a.whole)) (
   where
     go : (o : Option Spot) → spot_on c (cells_on c rs (page_for c rs a.whole)) (size_of a.kept) ≡ o
         → record_for c a (page_for c rs a.whole) o ≡ some r → PlacedAt c rs a r
-    go None f h = let z : ◌≡◌ {A = ℕ} 0 1 = cc in absurd (omega arith)
+    go None f h = absurd cc
     go (Some k) f h = record { spot = k; found = f; is = is k r h }
       where
         is : (k : Spot) (r : Record) → some (record_at c a (page_for c rs a.whole) k) ≡ some r → r ≡ record_at c a (page_for c rs a.whole) k

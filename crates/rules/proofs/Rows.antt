@@ -1,7 +1,6 @@
 -- The rows of checks of ask, offer and withdraw, as document 01 has them, and one law for every row: a refusal is answered exactly when
 -- its check holds and none before it does. Assumes nothing.
 use Prim.Native.Nat.{ℕ, suc, ◌<◌}
-use native.Mathlib.Omega.{arith}
 use mathlib.Core.Path.{◌≡◌, refl, sym, ◌∙◌, ap}
 use mathlib.Core.Bool.{Bool, true, false}
 use mathlib.Core.List.{[], ◌∷◌, Memᴰ}
@@ -62,7 +61,7 @@ exactly_at row n h o =
 -- and no other number is
 pub answer_in : (row : Row) (r : Refusal) → first_refusal row ≡ some r → Memᴰ (number_of r) (row_numbers row)
 unfolding first_refusal
-answer_in [] r e = let z : ◌≡◌ {A = ℕ} 0 1 = cc in absurd (omega arith)
+answer_in [] r e = absurd cc
 answer_in ((true, q) ∷ cs) r e = let z : r ≡ q = cc in Memᴰ.head (ap number_of z)
 answer_in ((false, q) ∷ cs) r e = Memᴰ.tail (answer_in cs r e)
 
@@ -70,7 +69,7 @@ answer_in ((false, q) ∷ cs) r e = Memᴰ.tail (answer_in cs r e)
 pub none-holds : (row : Row) → first_refusal row ≡ none → Nones row
 unfolding first_refusal
 none-holds [] e = tt
-none-holds ((true, r) ∷ cs) e = let z : ◌≡◌ {A = ℕ} 0 1 = cc in absurd (omega arith)
+none-holds ((true, r) ∷ cs) e = absurd cc
 none-holds ((false, r) ∷ cs) e = (refl, none-holds cs e)
 
 pub holds-none : (row : Row) → Nones row → first_refusal row ≡ none

@@ -1,6 +1,6 @@
 -- A withdrawal takes back just what the latest offer added. Assumes nothing.
 use Rattle.std.specs.Prelude.{Ok}
-use Prim.Native.Nat.{ℕ, ◌<◌}
+use Prim.Native.Nat.{◌<◌}
 use native.Mathlib.Omega.{arith}
 use mathlib.Core.Path.{◌≡◌, refl, sym, ◌∙◌, ap}
 use mathlib.Core.Bool.{true, not}
@@ -60,8 +60,8 @@ filled_undone c rs h s k i p e =
     go : (o : Option Refusal) → offer_refusal (filled c rs) s k i ≡ o
         → (q : Option Record) → placed (filled c rs).config (standing (filled c rs)) (art_for (filled c rs).config s k i) ≡ q
         → (offer_answer (filled c rs) q o).answer ≡ Ok p → withdrawn (offer_answer (filled c rs) q o).layout ≡ gone k (filled c rs)
-    go (some n) a q b w = let z : ◌≡◌ {A = ℕ} 0 1 = cc in absurd (omega arith)
-    go none a none b w = let z : ◌≡◌ {A = ℕ} 0 1 = cc in absurd (omega arith)
+    go (some n) a q b w = absurd cc
+    go none a none b w = absurd cc
     go none a (some r) b w =
         let pl = offer-places c rs h s k i b in
         let room = offer-room c rs h s k i a in

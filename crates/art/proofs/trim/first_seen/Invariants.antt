@@ -1,13 +1,7 @@
-use Prim.Native.Nat.{ℕ, ◌-◌, ◌≤◌, ◌<◌}
-use mathlib.Core.Path.{◌≡◌}
+use Prim.Native.Nat.{ℕ, ◌<◌}
 use mathlib.Core.Bool.{false}
-use Rattle.art.specs.Stores.{lent}
-use Rattle.art.specs.Search.{line_visible}
 use Rattle.art.proofs.trim.first_seen.Given as goal
 
--- `first_seen` has found no visible line before line k. Assumes nothing.
+-- `first_seen` has found nothing before k. Assumes nothing.
 abbrev pub invariant-loop-k : goal.invariant-loop-k
-invariant-loop-k l = (l.k ≤ l.n) × ((j : ℕ) → j < l.k → line_visible l.lines (lent l.stores) l.image j ≡ false)
-
-abbrev pub decreases-loop-k : goal.decreases-loop-k
-decreases-loop-k l = l.n - l.k
+invariant-loop-k g l = (j : ℕ) → j < l.k → goal.F-post g l.seen j false

@@ -42,9 +42,6 @@ returns-then-not-well_formed c =
     let both = says located_numbers (sym (unformed _ _ _ (sym c.well_formed-2.ensures ∙ c.if-not-well_formed.true))) in
     record { value = both.0; result_value = both.1 }
 
-pub find_key-at-requires : goal.find_key-at-requires
-find_key-at-requires c = well c
-
 pub returns-then-l-at : goal.returns-then-l-at
 returns-then-l-at c =
     let n = counted (goal.at.returns-then-l-at c).Else-not-well_formed in
@@ -56,9 +53,6 @@ offset_bounds-l-at c = let f = (formed _ (well (goal.at.offset_bounds-l-at c).El
 
 pub bounds-l-at : goal.bounds-l-at
 bounds-l-at c = let f = (formed _ (well (goal.at.bounds-l-at c).Else-not-well_formed)).few in omega arith
-
-pub size_of_page-s-requires : goal.size_of_page-s-requires
-size_of_page-s-requires c = well (goal.at.size_of_page-s-requires c).Else-not-well_formed
 
 pub answer_request-requires : goal.answer_request-requires
 unfolding blank_record

@@ -1,12 +1,6 @@
-use mathlib.Core.Path.{sym, ap, ◌∙◌}
-use mathlib.Core.Option.{some}
 use Rattle.paint.specs.Backgrounds.{composed}
-use Rattle.paint.specs.declared.background.Background.{Background}
 use Rattle.paint.proofs.background.with_pixel.Goals as goal
 
-pub returns-in-Clear : goal.returns-in-Clear
+pub returns-in-None : goal.returns-in-None
 unfolding composed
-returns-in-Clear c = rw c.in-Clear.is
-
-pub returns-in-Colour : goal.returns-in-Colour
-returns-in-Colour c = c.over_colour.ensures ∙ ap (λ (g : Background). composed g (some c.args.k)) (sym c.in-Colour.is)
+returns-in-None c = rw c.in-None.is

@@ -1,10 +1,10 @@
 use Rattle.paint.specs.Backgrounds.{clear_pixel, composed}
 use Rattle.paint.proofs.background.without_pixel.Goals as goal
 
-pub returns-in-Clear : goal.returns-in-Clear
+pub returns-in-None : goal.returns-in-None
 unfolding composed clear_pixel
-returns-in-Clear c = rw c.in-Clear.is
+returns-in-None c = rw c.in-None.is
 
-pub returns-in-Colour : goal.returns-in-Colour
+pub returns-in-Some : goal.returns-in-Some
 unfolding composed
-returns-in-Colour c = rw c.in-Colour.is
+returns-in-Some c = rw c.in-Some.is

@@ -2,9 +2,8 @@ use Prim.Native.Nat.{ℕ, ◌+◌, ◌-◌, ◌≤◌, ◌<◌, min, max}
 use native.Mathlib.Omega.{arith}
 use native.Mathlib.Decide.{dec_lt}
 use mathlib.Core.Logic.{◌⊎◌, inl, inr}
-use mathlib.Core.Path.{◌≡◌, sym, ◌∙◌, subst}
-use Rattle.geometry.proofs.Rects.{product_fits}
-use Rattle.paint.proofs.Frames.{row_fits, min-is, ZoneFew, zone-few, rows_none, rows_all, rows_more, zone_to}
+use mathlib.Core.Path.{◌≡◌, sym, subst}
+use Rattle.paint.proofs.Frames.{min-is, ZoneFew, zone-few, rows_none, rows_all, rows_more, zone_to}
 use Rattle.paint.proofs.painting.paint_frame.Goals.{After-zone_of-z}
 use Rattle.paint.proofs.painting.paint_frame.Goals as goal
 
@@ -35,72 +34,37 @@ past last bottom y stop e h = go (ends last bottom stop e)
     go (inl a) = inl (omega arith)
     go (inr a) = inr (omega arith)
 
-pub zone_of-z-requires : goal.zone_of-z-requires
-zone_of-z-requires c = let p = c.requires.in_store in (p.1, p.2)
-
 pub overflow_add-z : goal.overflow_add-z
 overflow_add-z c = let f = (few (goal.at.overflow_add-z c).After-zone_of-z).w in omega arith
-
-pub overflow_add-first : goal.overflow_add-first
-overflow_add-first c = let p = c.requires.rows_bound.0 in omega arith
 
 pub overflow_add-z-2 : goal.overflow_add-z-2
 overflow_add-z-2 c = let f = (few (goal.at.overflow_add-z-2 c).After-zone_of-z).h in omega arith
 
 pub loop-y-init : goal.loop-y-init
-loop-y-init c =
-    let e = c.most-y.ensures in
-    (omega arith, omega arith, rows_none _ _ _ _ _ _ _ (starts _ _ _ e))
-
-pub overflow_sub-base : goal.overflow_sub-base
-overflow_sub-base c = c.loop-y.invariant.0
-
-pub overflow_cast-base : goal.overflow_cast-base
-overflow_cast-base c = omega arith
-
-pub overflow_mul-base : goal.overflow_mul-base
-overflow_mul-base c = record { fits = product_fits _ _ (omega arith) (omega arith) }
-
-pub paint_span-requires : goal.paint_span-requires
-paint_span-requires c =
-    let l = c.loop-y in
-    let stop = c.least-stop.ensures in
-    let end = c.least-end.ensures in
-    let low = l.invariant.0 in
-    let below = c.loop-y-test.true in
-    let u : l.y - c.args.first < c.args.rows = omega arith in
-    let n = l.invariant.2.long ∙ c.requires.rows_bound.1 in
-    let fits = row_fits c.args.w (l.y - c.args.first) c.args.rows c.least-end.result u (omega arith) in
-    record { in_store = (c.requires.in_store.0, c.requires.in_store.2); end_in_bounds = omega arith }
-
-pub overflow_add-y : goal.overflow_add-y
-overflow_add-y c = omega arith
-
-pub loop-y-smaller : goal.loop-y-smaller
-loop-y-smaller c = omega arith
+loop-y-init c = rows_none _ _ _ _ _ _ _ (starts c.args.first c.zone_of-z.result.y _ (omega (arith, c.max-start.ensures)))
 
 pub loop-y-preserved : goal.loop-y-preserved
 loop-y-preserved c =
     let l = c.loop-y in
-    let stop = c.least-stop.ensures in
-    let end = c.least-end.ensures in
-    let low = l.invariant.0 in
-    let top = l.invariant.1 in
+    let stop = c.min-stop.ensures in
+    let end = c.min-end.ensures in
+    let start = c.max-start.ensures in
+    let low = l.auto.y in
     let below = c.loop-y-test.true in
     let z = c.zone_of-z.result in
     let a = c.args in
+    let e = c.min-end.result in
+    let top : z.y ≤ l.y = omega arith in
     let last : l.y < z.y + z.h = omega arith in
-    let narrow : c.least-end.result ≤ a.w = omega arith in
-    let right : c.least-end.result ≤ z.x + z.w = omega arith in (
-      omega arith,
-      omega arith,
-      rows_more _ z a.w a.first a.rows l.y (l.y - a.first) c.least-end.result _ l.bytes _ (omega arith) top last narrow right
-          (ends _ _ _ end) l.invariant.2 c.paint_span.ensures,
-    )
+    let narrow : e ≤ a.w = omega arith in
+    let right : e ≤ z.x + z.w = omega arith in
+    rows_more _ z a.w a.first a.rows l.y (l.y - a.first) e _ l.bytes _ (omega arith) top last narrow right
+    (ends a.w (z.x + z.w) e (omega arith)) l.invariant c.paint_span.ensures
 
 pub returns : goal.returns
 returns c =
     let l = c.loop-y in
     let a = c.args in
+    let z = c.zone_of-z.result in
     zone_to c.zone_of-z.ensures
-    (rows_all _ _ _ _ _ l.y _ _ (past (a.first + a.rows) (c.zone_of-z.result.y + c.zone_of-z.result.h) l.y _ c.least-stop.ensures c.loop-y-test.false) l.invariant.2)
+    (rows_all _ _ _ _ _ l.y _ _ (past (a.first + a.rows) (z.y + z.h) l.y c.min-stop.result (omega (arith, c.min-stop.ensures)) c.loop-y-test.false) l.invariant)

@@ -1,4 +1,3 @@
-use Prim.Native.Nat.{◌-◌, ◌≤◌}
 use Rattle.art.specs.Stores.{lent}
 use Rattle.paint.specs.Painting.{composed_frame}
 use Rattle.paint.proofs.Frames.{RowsPainted}
@@ -6,7 +5,4 @@ use Rattle.paint.proofs.painting.paint_frame.Given as goal
 
 -- `paint_frame` has painted the rows that it passed. Assumes nothing.
 abbrev pub invariant-loop-y : goal.invariant-loop-y
-invariant-loop-y l = (l.first ≤ l.y) × (l.z.y ≤ l.y) × RowsPainted (composed_frame l.c (lent l.symbols l.wording) l.g l.r) l.z l.w l.first l.rows l.y l.initial.bytes l.bytes
-
-abbrev pub decreases-loop-y : goal.decreases-loop-y
-decreases-loop-y l = l.stop - l.y
+invariant-loop-y l = RowsPainted (composed_frame l.c (lent l.stores) l.g l.r) l.z l.w l.first l.rows l.y l.initial.bytes l.bytes
