@@ -13,20 +13,19 @@ use Rattle.records.proofs.Rows.{and_true}
 use Rattle.job.specs.Bytes.{filled}
 use Rattle.job.specs.Numbers.{is_digit, value_from, number_in}
 use Rattle.job.specs.Steps.{with_digit}
-use Rattle.job.specs.declared.numbers.Number.{Number}
-use Rattle.job.specs.declared.numbers.Number.TheVariants.{Is, Not}
+use Rattle.std.specs.Prelude.{Option, Some, None}
 
 -- the digits that follow those of n
-unfoldable pub digits_from : ℕ → List ℕ → Number
-digits_from n bs = cond (all is_digit bs && leb (value_from n bs) 4294967295) (Is (value_from n bs)) Not
+unfoldable pub digits_from : ℕ → List ℕ → Option ℕ
+digits_from n bs = cond (all is_digit bs && leb (value_from n bs) 4294967295) (Some (value_from n bs)) None
 
 -- ## tests
 
-pub picks : (t : Bool) (m n : ℕ) → cond t (Is n) Not ≡ Is m → (t ≡ true) × (m ≡ n)
+pub picks : (t : Bool) (m n : ℕ) → cond t (Some n) None ≡ Some m → (t ≡ true) × (m ≡ n)
 picks true m n e = (refl, (cc))
 picks false m n e = let z : ◌≡◌ {A = ℕ} 0 1 = cc in absurd (omega arith)
 
-leaves : (t : Bool) (n : ℕ) → cond t (Is n) Not ≡ Not → t ≡ false
+leaves : (t : Bool) (n : ℕ) → cond t (Some n) None ≡ None → t ≡ false
 leaves true n e = let z : ◌≡◌ {A = ℕ} 0 1 = cc in absurd (omega arith)
 leaves false n e = refl
 
@@ -38,17 +37,17 @@ grows n [] = omega arith
 grows n (b ∷ bs) = let h = grows (10 * n + (b - 48)) bs in omega arith
 
 -- a digit decides nothing more
-with_it : (d m l : Bool) (n : ℕ) → d ≡ true → cond ((d && m) && l) (Is n) Not ≡ cond (m && l) (Is n) Not
+with_it : (d m l : Bool) (n : ℕ) → d ≡ true → cond ((d && m) && l) (Some n) None ≡ cond (m && l) (Some n) None
 with_it d m l n e = rw e
 
-without : (d m l : Bool) (n : ℕ) → d ≡ false → cond ((d && m) && l) (Is n) Not ≡ Not
+without : (d m l : Bool) (n : ℕ) → d ≡ false → cond ((d && m) && l) (Some n) None ≡ None
 without d m l n e = rw e
 
-past : (d l : Bool) (n : ℕ) → l ≡ false → cond (d && l) (Is n) Not ≡ Not
+past : (d l : Bool) (n : ℕ) → l ≡ false → cond (d && l) (Some n) None ≡ None
 past true l n e = rw e
 past false l n e = refl
 
-pub goes : (n b m : ℕ) (bs : List ℕ) → with_digit n b ≡ Is m → (digits_from n (b ∷ bs) ≡ digits_from m bs) × (m ≤ 4294967295)
+pub goes : (n b m : ℕ) (bs : List ℕ) → with_digit n b ≡ Some m → (digits_from n (b ∷ bs) ≡ digits_from m bs) × (m ≤ 4294967295)
 unfolding digits_from with_digit all value_from
 goes n b m bs e =
     let p = picks (is_digit b && leb (10 * n + (b - 48)) 4294967295) m (10 * n + (b - 48)) e in
@@ -59,25 +58,25 @@ goes n b m bs e =
       omega arith,
     )
 
-pub stops : (n b : ℕ) (bs : List ℕ) → with_digit n b ≡ Not → digits_from n (b ∷ bs) ≡ Not
+pub stops : (n b : ℕ) (bs : List ℕ) → with_digit n b ≡ None → digits_from n (b ∷ bs) ≡ None
 unfolding digits_from with_digit all value_from
 stops n b bs e = go (is_digit b) refl
   where
-    here : leb (10 * n + (b - 48)) 4294967295 ≡ false → digits_from n (b ∷ bs) ≡ Not
+    here : leb (10 * n + (b - 48)) 4294967295 ≡ false → digits_from n (b ∷ bs) ≡ None
     here q =
         let h = grows (10 * n + (b - 48)) bs in
         let k = leb-false (10 * n + (b - 48)) 4294967295 q in
         past (all is_digit (b ∷ bs)) (leb (value_from (10 * n + (b - 48)) bs) 4294967295) (value_from (10 * n + (b - 48)) bs)
         (lt-leb (value_from (10 * n + (b - 48)) bs) 4294967295 (omega arith))
 
-    go : (d : Bool) → is_digit b ≡ d → digits_from n (b ∷ bs) ≡ Not
+    go : (d : Bool) → is_digit b ≡ d → digits_from n (b ∷ bs) ≡ None
     go true p =
         here
         (leaves (leb (10 * n + (b - 48)) 4294967295) (10 * n + (b - 48))
-        (ap (λ (d : Bool). cond (d && leb (10 * n + (b - 48)) 4294967295) (Is (10 * n + (b - 48))) Not) (sym p) ∙ e))
+        (ap (λ (d : Bool). cond (d && leb (10 * n + (b - 48)) 4294967295) (Some (10 * n + (b - 48))) None) (sym p) ∙ e))
     go false p = without (is_digit b) (all is_digit bs) (leb (value_from (10 * n + (b - 48)) bs) 4294967295) (value_from (10 * n + (b - 48)) bs) p
 
-pub ends : (n : ℕ) → n ≤ 4294967295 → digits_from n [] ≡ Is n
+pub ends : (n : ℕ) → n ≤ 4294967295 → digits_from n [] ≡ Some n
 unfolding digits_from all value_from
 ends n h = rw (le-leb n 4294967295 h)
 
@@ -87,9 +86,9 @@ pub whole : (w : List ℕ) → 0 < length w → number_in w ≡ digits_from 0 w
 unfolding number_in digits_from all_of filled
 whole [] h = absurd (omega arith)
 whole (b ∷ bs) h =
-    ap (λ (l : Bool). cond (all is_digit (b ∷ bs) && l) (Is (value_from 0 (b ∷ bs))) Not) (sym (and_true (leb (value_from 0 (b ∷ bs)) 4294967295)))
+    ap (λ (l : Bool). cond (all is_digit (b ∷ bs) && l) (Some (value_from 0 (b ∷ bs))) None) (sym (and_true (leb (value_from 0 (b ∷ bs)) 4294967295)))
 
-pub none : (w : List ℕ) → length w ≡ 0 → number_in w ≡ Not
+pub none : (w : List ℕ) → length w ≡ 0 → number_in w ≡ None
 unfolding number_in all_of filled
 none [] h = refl
 none (b ∷ bs) h = absurd (omega arith)

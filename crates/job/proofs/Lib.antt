@@ -1,7 +1,8 @@
-pub mod Picks
 pub mod Digits
-pub mod Pieces
+pub mod Picks
 pub mod Splits
+pub mod Picked
+pub mod WordByWord
 pub mod Sames
 pub mod Sayings
 pub mod Readings

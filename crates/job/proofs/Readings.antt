@@ -1,74 +1,59 @@
--- A job's lines, as a loop over its text finds them. Assumes nothing.
-use Prim.Native.Nat.{ℕ, suc, ◌+◌, ◌-◌, ◌≤◌, ◌<◌}
+-- A job's lines, as the loop over its text finds them. Assumes nothing.
+use Prim.Native.Nat.{ℕ, suc, ◌+◌, ◌≤◌, ◌<◌}
 use native.Mathlib.Omega.{arith}
-use mathlib.Core.Bool.{Bool, cond}
-use mathlib.Core.Logic.{◌⊎◌, inl, inr}
-use mathlib.Core.Path.{◌≡◌, refl, sym, ap, ap₂, ◌∙◌}
-use mathlib.Core.List.{List, [], ◌∷◌}
-use lib.Dec.{leb}
-use lib.ListN.{length, take, drop, length-drop}
-use lib.Seq.{drop-drop, take_all}
-use borrow.Author.Tests.{le-leb, lt-leb}
-use Rattle.job.specs.Bytes.{up_to, pieces, is_feed}
+use native.Mathlib.Numerals.{add-one}
+use mathlib.Core.Path.{◌≡◌, sym, ap, ◌∙◌}
+use mathlib.Core.List.{List, ◌∷◌}
+use lib.ListN.{length, drop, get_or, drop_of_length-le}
+use lib.Seq.{drop-cons}
+use Rattle.std.specs.Prelude.{Result, Ok}
+use Rattle.std.specs.List.{slice_split, enumerate_from}
+use Rattle.std.proofs.lemmas.List.FromFn.{length-enumerate_from, get_or-enumerate_from}
+use Rattle.job.specs.Bytes.{is_feed}
 use Rattle.job.specs.Lines.{line_in}
-use Rattle.job.specs.Jobs.{blank_job, state, taken, after, lines_in}
-use Rattle.job.specs.declared.reading.Job.{Job}
+use Rattle.job.specs.Jobs.{taken, unless_malformed, after, lines_in}
+use Rattle.job.specs.declared.reading.Malformed.{Malformed}
 use Rattle.job.specs.declared.reading.State.{State}
-use Rattle.job.specs.declared.reading.Stage.TheVariants.{Start}
-use Rattle.job.proofs.Pieces.{end_from, is-take, last_piece, first_piece}
-use Rattle.job.proofs.Splits.{or_less}
+use Rattle.job.proofs.Splits.{pieces_is}
 
--- the lines from a place on: none past the end
-unfoldable pub left : List ℕ → ℕ → List (List ℕ)
-left text at = cond (leb at (length text)) (pieces is_feed (drop at text)) []
+lines_are : (text : List ℕ) → slice_split is_feed text ≡ lines_in text
+unfolding lines_in
+lines_are text = pieces_is is_feed text
 
-pub begins : (text : List ℕ) (j : Job) → j ≡ blank_job → after 1 (lines_in text) (state Start blank_job) ≡ after 1 (left text 0) (state Start j)
-unfolding lines_in left
-begins text j e =
-    ap (λ (k : Job). after 1 (pieces is_feed text) (state Start k)) (sym e)
-    ∙ ap (λ (b : Bool). after 1 (cond b (pieces is_feed text) []) (state Start j)) (sym (le-leb 0 (length text) (omega arith)))
+-- the numbered lines of a text
+abbrev pub numbered : List ℕ → List (ℕ × List ℕ)
+numbered text = enumerate_from 0 (slice_split is_feed text)
 
-pub none_left : (text : List ℕ) (at : ℕ) → length text < at → left text at ≡ []
-unfolding left
-none_left text at h = ap (λ (b : Bool). cond b (pieces is_feed (drop at text)) []) (lt-leb at (length text) h)
+-- line i, of which k stand before it
+module _ (text : List ℕ) (k i : ℕ) (l : List ℕ) (h : k < length (numbered text)) (e : ◌≡◌ {A = ℕ × List ℕ} (i, l) (get_or (numbered text) k (i, l))) where
+  there : k < length (slice_split is_feed text)
+  there = omega (arith, length-enumerate_from 0 (slice_split is_feed text))
 
-some_left : (text : List ℕ) (at : ℕ) → at ≤ length text → left text at ≡ pieces is_feed (drop at text)
-unfolding left
-some_left text at h = ap (λ (b : Bool). cond b (pieces is_feed (drop at text)) []) (le-leb at (length text) h)
+  read : ◌≡◌ {A = ℕ × List ℕ} (i, l) (0 + k, get_or (slice_split is_feed text) k l)
+  read = e ∙ get_or-enumerate_from 0 (slice_split is_feed text) k (i, l) there
 
-module _ (text : List ℕ) (at end : ℕ) (e : end ≡ end_from is_feed text at) (h : at ≤ length text) where
-  size : length (up_to is_feed (drop at text)) ≡ end - at
-  size = omega arith
+  pub place : i ≡ k
+  place = let p : i ≡ 0 + k = ap (λ (p : ℕ × List ℕ). p.0) read in omega arith
 
-  -- the line there, and the lines after it
-  pub next_line : left text at ≡ take (end - at) (drop at text) ∷ left text (end + 1)
-  next_line = go (or_less end (length text))
-    where
-      long : length (drop at text) ≡ length text - at
-      long = length-drop at text
+  pub here : drop k (lines_in text) ≡ l ∷ drop (k + 1) (lines_in text)
+  here =
+      let q : l ≡ get_or (slice_split is_feed text) k l = ap (λ (p : ℕ × List ℕ). p.1) read in
+      ap (drop k) (sym (lines_are text))
+      ∙ drop-cons (slice_split is_feed text) k l there
+      ∙ ap (λ (w : List ℕ). w ∷ drop (suc k) (slice_split is_feed text)) (sym q)
+      ∙ ap (λ (ls : List (List ℕ)). l ∷ drop (suc k) ls) (lines_are text)
+      ∙ ap (λ (n : ℕ). l ∷ drop n (lines_in text)) (sym (add-one k))
 
-      go : (end < length text) ⊎ (length text ≤ end) → left text at ≡ take (end - at) (drop at text) ∷ left text (end + 1)
-      go (inl k) =
-          let l = long in
-          let s = size in
-          let p : at + suc (length (up_to is_feed (drop at text))) ≡ end + 1 = omega arith in
-          let first : up_to is_feed (drop at text) ≡ take (end - at) (drop at text) = is-take is_feed (drop at text) ∙ ap (λ (n : ℕ). take n (drop at text)) size in
-          let rest : pieces is_feed (drop (suc (length (up_to is_feed (drop at text)))) (drop at text)) ≡ left text (end + 1) =
-          ap (pieces is_feed) (drop-drop (suc (length (up_to is_feed (drop at text)))) at text ∙ ap (λ (n : ℕ). drop n text) p) ∙ sym (some_left text (end + 1) (omega arith)) in
-          some_left text at h ∙ first_piece is_feed (drop at text) (omega arith) ∙ ap₂ ◌∷◌ first rest
-      go (inr k) =
-          let l = long in
-          let s = size in
-          some_left text at h
-          ∙ last_piece is_feed (drop at text) (omega arith)
-          ∙ ap₂ ◌∷◌ (sym (take_all (end - at) (drop at text) (omega arith))) (sym (none_left text (end + 1) (omega arith)))
+  pub taken_here : (s : State) {r : Result State Malformed} → r ≡ taken (i + 1) (line_in l) s → after (k + 1) (drop k (lines_in text)) s ≡ unless_malformed (after (k + 1 + 1) (drop (k + 1) (lines_in text))) r
+  unfolding after
+  taken_here s q =
+      ap (λ (ls : List (List ℕ)). after (k + 1) ls s) here
+      ∙ ap (λ (n : ℕ). unless_malformed (after (k + 1 + 1) (drop (k + 1) (lines_in text))) (taken (n + 1) (line_in l) s)) (sym place)
+      ∙ ap (unless_malformed (after (k + 1 + 1) (drop (k + 1) (lines_in text)))) (sym q)
 
--- ## one line of them
-
-pub takes : (n : ℕ) (l : List ℕ) (ls : List (List ℕ)) (s : State) → after n (l ∷ ls) s ≡ after (n + 1) ls (taken n (line_in l) s)
+pub none_left : (text : List ℕ) (k : ℕ) (s : State) → k ≡ length (numbered text) → after (k + 1) (drop k (lines_in text)) s ≡ Ok s
 unfolding after
-takes n l ls s = refl
-
-pub at_end_lem : (n : ℕ) (s : State) → after n [] s ≡ s
-unfolding after
-at_end_lem n s = refl
+none_left text k s e =
+    let n = length-enumerate_from 0 (slice_split is_feed text) in
+    let past : length (slice_split is_feed text) ≤ k = omega arith in
+    ap (λ (ls : List (List ℕ)). after (k + 1) ls s) (ap (drop k) (sym (lines_are text)) ∙ drop_of_length-le (slice_split is_feed text) past)

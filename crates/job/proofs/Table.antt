@@ -5,14 +5,14 @@ use Rattle.geometry.specs.Words.{all_of, all, only, flat}
 use Rattle.records.specs.Settings.{blank_config}
 use Rattle.job.specs.Bytes.{up_to, onto, pieces, filled, same, bytes_of}
 use Rattle.job.specs.Numbers.{value_from, number_in}
-use Rattle.job.specs.Words.{uncommented, split, words_in, given, value_of, is_number, to_number, small, is_part, to_part, is_switch, to_switch, is_store, to_store, is_threshold, to_threshold}
+use Rattle.job.specs.Words.{uncommented, split, words_in, is_number, to_number, small, is_part, to_part, is_switch, to_switch, is_store, to_store, is_threshold, to_threshold}
 use Rattle.job.specs.Lines.{config_ok, config_of, config_line, clear_ok, colour_ok, pixel_of, colour_of, ground_line, image_ok, key_of, image_of, image_line, said, line_in}
-use Rattle.job.specs.Jobs.{blank_entry, opened_job, blank_job, grounded, entered, with_config, with_ground, next_image, with_image, with_trouble, taken, after, done, refused, ended, lines_in, job_in}
+use Rattle.job.specs.Jobs.{blank_entry, opened_job, blank_job, grounded, entered, with_config, with_ground, next_image, with_image, stepped, taken, after, ended, lines_in, job_in}
 use Rattle.job.specs.Table.{Row, numbers_of, one_if, store_of, trouble_of, config_numbers, limit_of, ground_numbers, image_numbers, line_numbers, outcome_numbers, entry_numbers, number, line, outcome, job, entries, settings, ground_told, nearly_full, many, example, number_rows, empty_rows, config_rows, ground_rows, image_rows, example_rows, accepted_rows, missing_rows, refused_rows, limit_rows}
 
 -- every rule, open
 rules : Unit {0}
-unfolding all_of all only flat blank_config up_to onto pieces filled same bytes_of value_from number_in uncommented split words_in given value_of is_number to_number small is_part to_part is_switch to_switch is_store to_store is_threshold to_threshold config_ok config_of config_line clear_ok colour_ok pixel_of colour_of ground_line image_ok key_of image_of image_line said line_in blank_entry opened_job blank_job grounded entered with_config with_ground next_image with_image with_trouble taken after done refused ended lines_in job_in numbers_of one_if store_of trouble_of config_numbers limit_of ground_numbers image_numbers line_numbers outcome_numbers entry_numbers number line outcome job entries settings ground_told nearly_full many example number_rows empty_rows config_rows ground_rows image_rows example_rows accepted_rows missing_rows refused_rows limit_rows
+unfolding all_of all only flat blank_config up_to onto pieces filled same bytes_of value_from number_in uncommented split words_in is_number to_number small is_part to_part is_switch to_switch is_store to_store is_threshold to_threshold config_ok config_of config_line clear_ok colour_ok pixel_of colour_of ground_line image_ok key_of image_of image_line said line_in blank_entry opened_job blank_job grounded entered with_config with_ground next_image with_image stepped taken after ended lines_in job_in numbers_of one_if store_of trouble_of config_numbers limit_of ground_numbers image_numbers line_numbers outcome_numbers entry_numbers number line outcome job entries settings ground_told nearly_full many example number_rows empty_rows config_rows ground_rows image_rows example_rows accepted_rows missing_rows refused_rows limit_rows
 rules = tt
 
 -- each row is what it must be

@@ -1,26 +1,23 @@
 -- What a job's text says: its lines one after the other.
 -- Assumes nothing.
-use Rattle.std.specs.Prelude.{ℕ, ◌+◌, cond, List, [], ◌∷◌, ltb, replicate, set}
+use Rattle.std.specs.Prelude.{ℕ, ◌+◌, cond, List, [], ◌∷◌, None, Result, Ok, Err, ltb, replicate, set}
 use Rattle.art.specs.declared.memory_rgba8_texture.Image.{Image}
 use Rattle.art.specs.declared.memory_rgba8_texture.Store.TheVariants.{Symbols}
 use Rattle.records.specs.Settings.{blank_config}
 use Rattle.records.specs.declared.texture_packer_config.Config.{Config}
 use Rattle.records.specs.declared.frame.Key.{Key}
-use Rattle.paint.specs.declared.background.Background.{Background}
-use Rattle.paint.specs.declared.background.Background.TheVariants.{Clear}
+use Rattle.paint.specs.Backgrounds.{Background}
 use Rattle.job.specs.Bytes.{pieces, is_feed}
 use Rattle.job.specs.Lines.{line_in}
 use Rattle.job.specs.declared.lines.Line.{Line}
-use Rattle.job.specs.declared.lines.Line.TheVariants.{Empty, Settings, Ground, Picture, Malformed}
+use Rattle.job.specs.declared.lines.Line.TheVariants.{Empty, Settings, Ground, Picture}
 use Rattle.job.specs.declared.lines.Trouble.{Trouble}
 use Rattle.job.specs.declared.lines.Trouble.TheVariants.{NoConfig, SecondConfig, LateBackground, TooManyImages}
 use Rattle.job.specs.declared.reading.Entry.{Entry}
 use Rattle.job.specs.declared.reading.Job.{Job}
-use Rattle.job.specs.declared.reading.Parsed.{Parsed}
-use Rattle.job.specs.declared.reading.Outcome.TheVariants.{Done, Refused}
+use Rattle.job.specs.declared.reading.Malformed.{Malformed}
 use Rattle.job.specs.declared.reading.State.{State}
-use Rattle.job.specs.declared.reading.Stage.{Stage}
-use Rattle.job.specs.declared.reading.Stage.TheVariants.{Start, Open, Closed, Stopped}
+use Rattle.job.specs.declared.reading.State.TheVariants.{Start, Open, Closed}
 
 -- ## jobs
 
@@ -29,7 +26,7 @@ blank_entry = record { key = record { 0 = 0 }; image = record { store = Symbols;
 
 -- the configuration of line n, no background, no image
 unfoldable pub opened_job : Config → ℕ → Job
-opened_job c n = record { config = c; opened = n; background = Clear; entries = replicate 256 blank_entry; count = 0 }
+opened_job c n = record { config = c; opened = n; background = None; entries = replicate 256 blank_entry; count = 0 }
 
 unfoldable pub blank_job : Job
 blank_job = opened_job blank_config 0
@@ -48,77 +45,76 @@ entered j k i n =
       count = j.count + 1;
     }
 
--- ## one line: `Start` before the config line, `Open` after it, `Closed` after a background or an image, `Stopped` at the first trouble and its line
+-- ## one line: `Start` before the config line, `Open` after it, `Closed` after a background or an image
 
-abbrev pub state : Stage → Job → State
-state g j = record { stage = g; job = j }
+unfoldable pub with_config : Config → ℕ → State → Result State Trouble
+with_config c n Start = Ok (Open (opened_job c n))
+with_config c n (Open j) = Err SecondConfig
+with_config c n (Closed j) = Err SecondConfig
 
-abbrev pub stopped : Trouble → ℕ → State
-stopped t n = state (Stopped t n) blank_job
-
-unfoldable pub with_config : Config → ℕ → Stage → State
-with_config c n Start = state Open (opened_job c n)
-with_config c n Open = stopped SecondConfig n
-with_config c n Closed = stopped SecondConfig n
-with_config c n (Stopped t k) = stopped t k
-
-unfoldable pub with_ground : Background → ℕ → Stage → Job → State
-with_ground g n Start j = stopped NoConfig n
-with_ground g n Open j = state Closed (grounded j g)
-with_ground g n Closed j = stopped LateBackground n
-with_ground g n (Stopped t k) j = stopped t k
+unfoldable pub with_ground : Background → State → Result State Trouble
+with_ground g Start = Err NoConfig
+with_ground g (Open j) = Ok (Closed (grounded j g))
+with_ground g (Closed j) = Err LateBackground
 
 -- at most 256 images
-unfoldable pub next_image : Key → Image → ℕ → Job → State
-next_image key i n j = cond (ltb j.count 256) (state Closed (entered j key i n)) (stopped TooManyImages n)
+unfoldable pub next_image : Key → Image → ℕ → Job → Result State Trouble
+next_image key i n j = cond (ltb j.count 256) (Ok (Closed (entered j key i n))) (Err TooManyImages)
 
-unfoldable pub with_image : Key → Image → ℕ → Stage → Job → State
-with_image key i n Start j = stopped NoConfig n
-with_image key i n Open j = next_image key i n j
-with_image key i n Closed j = next_image key i n j
-with_image key i n (Stopped t k) j = stopped t k
+unfoldable pub with_image : Key → Image → ℕ → State → Result State Trouble
+with_image key i n Start = Err NoConfig
+with_image key i n (Open j) = next_image key i n j
+with_image key i n (Closed j) = next_image key i n j
 
-unfoldable pub with_trouble : Trouble → ℕ → Stage → State
-with_trouble t n Start = stopped t n
-with_trouble t n Open = stopped t n
-with_trouble t n Closed = stopped t n
-with_trouble t n (Stopped u k) = stopped u k
+-- the state after what line n says
+unfoldable pub stepped : ℕ → Line → State → Result State Trouble
+stepped n Empty s = Ok s
+stepped n (Settings c) s = with_config c n s
+stepped n (Ground g) s = with_ground g s
+stepped n (Picture key i) s = with_image key i n s
 
--- the state after line n
-unfoldable pub taken : ℕ → Line → State → State
-taken n Empty s = s
-taken n (Settings c) s = with_config c n s.stage
-taken n (Ground g) s = with_ground g n s.stage s.job
-taken n (Picture key i) s = with_image key i n s.stage s.job
-taken n (Malformed t) s = with_trouble t n s.stage
+-- a trouble and its line
+abbrev pub malformed : ℕ → Trouble → Malformed
+malformed n t = record { trouble = t; line = n }
+
+abbrev pub at_line : ℕ → Result State Trouble → Result State Malformed
+at_line n (Ok s) = Ok s
+at_line n (Err t) = Err (malformed n t)
+
+-- the state after line n; a malformed line is refused for what it is, whatever the state
+unfoldable pub taken : ℕ → Result Line Trouble → State → Result State Malformed
+taken n (Ok l) s = at_line n (stepped n l s)
+taken n (Err t) s = Err (malformed n t)
 
 -- ## all lines
 
--- the state after these lines, of which the first is line n
-unfoldable pub after : ℕ → List (List ℕ) → State → State
-after n [] s = s
-after n (l ∷ ls) s = after (n + 1) ls (taken n (line_in l) s)
+-- what f makes of the state, unless a line before is malformed
+abbrev pub unless_malformed : {A : Type 0} → (State → Result A Malformed) → Result State Malformed → Result A Malformed
+unless_malformed f (Ok s) = f s
+unless_malformed f (Err m) = Err m
 
-unfoldable pub done : Job → Parsed
-done j = record { outcome = Done; job = j }
-
--- a refused job is blank
-unfoldable pub refused : Trouble → ℕ → Parsed
-refused t n = record { outcome = Refused t n; job = blank_job }
+-- the state after these lines, of which the first is line n; the first trouble ends it
+unfoldable pub after : ℕ → List (List ℕ) → State → Result State Malformed
+after n [] s = Ok s
+after n (l ∷ ls) s = unless_malformed (after (n + 1) ls) (taken n (line_in l) s)
 
 -- at the end of the text; that there is no config line at all is a trouble of line 1
-unfoldable pub ended : Stage → Job → Parsed
-ended Start j = refused NoConfig 1
-ended Open j = done j
-ended Closed j = done j
-ended (Stopped t n) j = refused t n
+unfoldable pub ended : State → Result Job Malformed
+ended Start = Err (malformed 1 NoConfig)
+ended (Open j) = Ok j
+ended (Closed j) = Ok j
 
-abbrev pub finished : State → Parsed
-finished s = ended s.stage s.job
+abbrev pub finished : Result State Malformed → Result Job Malformed
+finished r = unless_malformed ended r
 
 -- lines end at line feeds, and are numbered from 1
 unfoldable pub lines_in : List ℕ → List (List ℕ)
 lines_in text = pieces is_feed text
 
-unfoldable pub job_in : List ℕ → Parsed
-job_in text = finished (after 1 (lines_in text) (state Start blank_job))
+unfoldable pub job_in : List ℕ → Result Job Malformed
+job_in text = finished (after 1 (lines_in text) Start)
+
+-- the job; a refused one is blank
+abbrev pub held : Result Job Malformed → Job
+held (Ok j) = j
+held (Err m) = blank_job

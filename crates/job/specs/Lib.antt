@@ -4,4 +4,5 @@ pub mod Words
 pub mod Steps
 pub mod Lines
 pub mod Jobs
+pub mod Meanings
 pub mod Table

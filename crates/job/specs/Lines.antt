@@ -1,17 +1,17 @@
 -- What a line of a job says.
 -- Assumes nothing.
-use Rattle.std.specs.Prelude.{ℕ, Bool, cond, ◌&&◌, List, [], ◌∷◌, eqb, length}
+use Rattle.std.specs.Prelude.{ℕ, Bool, cond, ◌&&◌, List, [], ◌∷◌, Some, None, Result, Ok, Err, eqb, length}
 use Rattle.geometry.specs.Words.{all_of}
 use Rattle.art.specs.declared.memory_rgba8_texture.Image.{Image}
 use Rattle.art.specs.declared.memory_rgba8_texture.Pixel.{Pixel}
 use Rattle.records.specs.declared.texture_packer_config.Config.{Config}
 use Rattle.records.specs.declared.frame.Key.{Key}
-use Rattle.paint.specs.declared.background.Background.{Background}
-use Rattle.paint.specs.declared.background.Background.TheVariants.{Clear, Colour}
+use Rattle.paint.specs.declared.background.Colour.{Colour}
 use Rattle.job.specs.Bytes.{says}
 use Rattle.job.specs.Words.{words_in, word, is_number, to_number, is_part, to_part, is_switch, to_switch, is_store, to_store, is_threshold, to_threshold}
 use Rattle.job.specs.declared.lines.Line.{Line}
-use Rattle.job.specs.declared.lines.Line.TheVariants.{Empty, Settings, Ground, Picture, Malformed}
+use Rattle.job.specs.declared.lines.Line.TheVariants.{Empty, Settings, Ground, Picture}
+use Rattle.job.specs.declared.lines.Trouble.{Trouble}
 use Rattle.job.specs.declared.lines.Trouble.TheVariants.{UnknownWord, BadConfig, BadBackground, BadImage}
 
 -- ## config: 7 numbers and 4 switches
@@ -49,8 +49,8 @@ config_of ws =
       forced = to_switch (word 11 ws);
     }
 
-unfoldable pub config_line : List (List ℕ) → Line
-config_line ws = cond (config_ok ws) (Settings (config_of ws)) (Malformed BadConfig)
+unfoldable pub config_line : List (List ℕ) → Result Line Trouble
+config_line ws = cond (config_ok ws) (Ok (Settings (config_of ws))) (Err BadConfig)
 
 -- ## background: none; or red, green, blue, alpha, threshold, discard
 
@@ -72,11 +72,11 @@ colour_ok ws =
 unfoldable pub pixel_of : List (List ℕ) → Pixel
 pixel_of ws = record { r = to_part (word 1 ws); g = to_part (word 2 ws); b = to_part (word 3 ws); a = to_part (word 4 ws) }
 
-unfoldable pub colour_of : List (List ℕ) → Background
-colour_of ws = Colour (pixel_of ws) (to_threshold (word 5 ws)) (to_switch (word 6 ws))
+unfoldable pub colour_of : List (List ℕ) → Colour
+colour_of ws = record { pixel = pixel_of ws; threshold = to_threshold (word 5 ws); discard = to_switch (word 6 ws) }
 
-unfoldable pub ground_line : List (List ℕ) → Line
-ground_line ws = cond (clear_ok ws) (Ground Clear) (cond (colour_ok ws) (Ground (colour_of ws)) (Malformed BadBackground))
+unfoldable pub ground_line : List (List ℕ) → Result Line Trouble
+ground_line ws = cond (clear_ok ws) (Ok (Ground None)) (cond (colour_ok ws) (Ok (Ground (Some (colour_of ws)))) (Err BadBackground))
 
 -- ## image: key, store, offset, width, height
 
@@ -103,18 +103,18 @@ image_of ws =
       h = to_number (word 5 ws);
     }
 
-unfoldable pub image_line : List (List ℕ) → Line
-image_line ws = cond (image_ok ws) (Picture (key_of ws) (image_of ws)) (Malformed BadImage)
+unfoldable pub image_line : List (List ℕ) → Result Line Trouble
+image_line ws = cond (image_ok ws) (Ok (Picture (key_of ws) (image_of ws))) (Err BadImage)
 
 -- ## a line: without words it means nothing; else the first word says what it is
 
-unfoldable pub said : List (List ℕ) → Line
-said [] = Empty
+unfoldable pub said : List (List ℕ) → Result Line Trouble
+said [] = Ok Empty
 said (w ∷ ws) =
     cond (says "config" w) (config_line (w ∷ ws))
     (cond (says "background" w) (ground_line (w ∷ ws))
     (cond (says "image" w) (image_line (w ∷ ws))
-    (Malformed UnknownWord)))
+    (Err UnknownWord)))
 
-unfoldable pub line_in : List ℕ → Line
+unfoldable pub line_in : List ℕ → Result Line Trouble
 line_in line = said (words_in line)

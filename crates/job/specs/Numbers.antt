@@ -1,10 +1,8 @@
 -- A number as a person writes it.
 -- Assumes nothing.
-use Rattle.std.specs.Prelude.{ℕ, ◌+◌, ◌*◌, ◌-◌, Bool, cond, List, [], ◌∷◌, leb}
+use Rattle.std.specs.Prelude.{ℕ, ◌+◌, ◌*◌, ◌-◌, Bool, cond, List, [], ◌∷◌, Option, Some, None, leb}
 use Rattle.geometry.specs.Words.{all_of, all, within}
 use Rattle.job.specs.Bytes.{filled}
-use Rattle.job.specs.declared.numbers.Number.{Number}
-use Rattle.job.specs.declared.numbers.Number.TheVariants.{Is, Not}
 
 -- 0 to 9
 abbrev pub is_digit : ℕ → Bool
@@ -16,8 +14,8 @@ value_from n [] = n
 value_from n (b ∷ bs) = value_from (10 * n + (b - 48)) bs
 
 -- one or more digits, with a value of at most 4294967295
-unfoldable pub number_in : List ℕ → Number
+unfoldable pub number_in : List ℕ → Option ℕ
 number_in w =
     cond (all_of (filled w ∷ all is_digit w ∷ leb (value_from 0 w) 4294967295 ∷ []))
-    (Is (value_from 0 w))
-    Not
+    (Some (value_from 0 w))
+    None

@@ -1,6 +1,6 @@
 -- Lines that tell wrong readings of a job's text apart: beside each computed list stands what it must be.
 -- Assumes nothing.
-use Rattle.std.specs.Prelude.{ℕ, Bool, cond, List, [], ◌∷◌, take, replicate}
+use Rattle.std.specs.Prelude.{ℕ, Bool, cond, List, [], ◌∷◌, Option, Some, None, Result, Ok, Err, take, replicate}
 use Prim.Native.String.{String, ◌++◌}
 use Rattle.art.specs.declared.memory_rgba8_texture.Image.{Image}
 use Rattle.art.specs.declared.memory_rgba8_texture.Store.{Store}
@@ -8,26 +8,19 @@ use Rattle.art.specs.declared.memory_rgba8_texture.Store.TheVariants.{Symbols, W
 use Rattle.geometry.specs.Words.{flat}
 use Rattle.records.specs.Settings.{blank_config}
 use Rattle.records.specs.declared.texture_packer_config.Config.{Config}
-use Rattle.paint.specs.declared.background.Background.{Background}
-use Rattle.paint.specs.declared.background.Background.TheVariants.{Clear, Colour}
-use Rattle.paint.specs.declared.background.Threshold.{Threshold}
-use Rattle.paint.specs.declared.background.Threshold.TheVariants.{Unset, AtMost}
+use Rattle.paint.specs.Backgrounds.{Background}
 use Rattle.job.specs.Bytes.{bytes_of}
 use Rattle.job.specs.Numbers.{number_in}
 use Rattle.job.specs.Lines.{line_in}
-use Rattle.job.specs.Jobs.{blank_entry, state, after, finished, job_in}
-use Rattle.job.specs.declared.numbers.Number.{Number}
-use Rattle.job.specs.declared.numbers.Number.TheVariants.{Is, Not}
+use Rattle.job.specs.Jobs.{blank_entry, after, finished, job_in, held}
 use Rattle.job.specs.declared.lines.Line.{Line}
-use Rattle.job.specs.declared.lines.Line.TheVariants.{Empty, Settings, Ground, Picture, Malformed}
+use Rattle.job.specs.declared.lines.Line.TheVariants.{Empty, Settings, Ground, Picture}
 use Rattle.job.specs.declared.lines.Trouble.{Trouble}
 use Rattle.job.specs.declared.lines.Trouble.TheVariants.{UnknownWord, BadConfig, BadBackground, BadImage, NoConfig, SecondConfig, LateBackground, TooManyImages}
 use Rattle.job.specs.declared.reading.Entry.{Entry}
 use Rattle.job.specs.declared.reading.Job.{Job}
-use Rattle.job.specs.declared.reading.Outcome.{Outcome}
-use Rattle.job.specs.declared.reading.Outcome.TheVariants.{Done, Refused}
-use Rattle.job.specs.declared.reading.Parsed.{Parsed}
-use Rattle.job.specs.declared.reading.Stage.TheVariants.{Closed}
+use Rattle.job.specs.declared.reading.Malformed.{Malformed}
+use Rattle.job.specs.declared.reading.State.TheVariants.{Closed}
 
 -- what is computed, and what it must be
 abbrev pub Row : Type 0
@@ -35,9 +28,9 @@ Row = List ℕ × List ℕ
 
 -- ## answers as numbers
 
-unfoldable pub numbers_of : Number → List ℕ
-numbers_of (Is n) = n ∷ []
-numbers_of Not = []
+unfoldable pub numbers_of : Option ℕ → List ℕ
+numbers_of (Some n) = n ∷ []
+numbers_of None = []
 
 unfoldable pub one_if : Bool → ℕ
 one_if b = cond b 1 0
@@ -62,28 +55,28 @@ config_numbers c =
     ∷ one_if c.rotation ∷ one_if c.trim ∷ one_if c.outlines ∷ one_if c.forced ∷ []
 
 -- 256 where it is unset
-unfoldable pub limit_of : Threshold → ℕ
-limit_of Unset = 256
-limit_of (AtMost t) = t
+unfoldable pub limit_of : Option ℕ → ℕ
+limit_of None = 256
+limit_of (Some t) = t
 
 unfoldable pub ground_numbers : Background → List ℕ
-ground_numbers Clear = []
-ground_numbers (Colour p t discard) = p.r ∷ p.g ∷ p.b ∷ p.a ∷ limit_of t ∷ one_if discard ∷ []
+ground_numbers None = []
+ground_numbers (Some c) = c.pixel.r ∷ c.pixel.g ∷ c.pixel.b ∷ c.pixel.a ∷ limit_of c.threshold ∷ one_if c.discard ∷ []
 
 unfoldable pub image_numbers : Image → List ℕ
 image_numbers i = store_of i.store ∷ i.offset ∷ i.w ∷ i.h ∷ []
 
 -- what it is first: 0 nothing, 100 config, 200 background, 300 image, or the trouble
-unfoldable pub line_numbers : Line → List ℕ
-line_numbers Empty = 0 ∷ []
-line_numbers (Settings c) = 100 ∷ config_numbers c
-line_numbers (Ground g) = 200 ∷ ground_numbers g
-line_numbers (Picture k i) = 300 ∷ k.0 ∷ image_numbers i
-line_numbers (Malformed t) = trouble_of t ∷ []
+unfoldable pub line_numbers : Result Line Trouble → List ℕ
+line_numbers (Ok Empty) = 0 ∷ []
+line_numbers (Ok (Settings c)) = 100 ∷ config_numbers c
+line_numbers (Ok (Ground g)) = 200 ∷ ground_numbers g
+line_numbers (Ok (Picture k i)) = 300 ∷ k.0 ∷ image_numbers i
+line_numbers (Err t) = trouble_of t ∷ []
 
-unfoldable pub outcome_numbers : Outcome → Job → List ℕ
-outcome_numbers Done j = 0 ∷ j.opened ∷ j.count ∷ []
-outcome_numbers (Refused t n) j = trouble_of t ∷ n ∷ j.opened ∷ j.count ∷ []
+unfoldable pub outcome_numbers : Result Job Malformed → Job → List ℕ
+outcome_numbers (Ok o) j = 0 ∷ j.opened ∷ j.count ∷ []
+outcome_numbers (Err m) j = trouble_of m.trouble ∷ m.line ∷ j.opened ∷ j.count ∷ []
 
 -- key, image and line of an entry
 unfoldable pub entry_numbers : Entry → List ℕ
@@ -97,28 +90,28 @@ number text = numbers_of (number_in (bytes_of text))
 unfoldable pub line : String → List ℕ
 line text = line_numbers (line_in (bytes_of text))
 
-unfoldable pub outcome : Parsed → List ℕ
-outcome p = outcome_numbers p.outcome p.job
+unfoldable pub outcome : Result Job Malformed → List ℕ
+outcome r = outcome_numbers r (held r)
 
 -- the outcome alone: 0, the config line and the count, or the trouble, its line and two zeros
 unfoldable pub job : String → List ℕ
 job text = outcome (job_in (bytes_of text))
 
 unfoldable pub entries : String → List ℕ
-entries text = flat entry_numbers (take (job_in (bytes_of text)).job.count (job_in (bytes_of text)).job.entries)
+entries text = flat entry_numbers (take (held (job_in (bytes_of text))).count (held (job_in (bytes_of text))).entries)
 
 unfoldable pub settings : String → List ℕ
-settings text = config_numbers (job_in (bytes_of text)).job.config
+settings text = config_numbers (held (job_in (bytes_of text))).config
 
 unfoldable pub ground_told : String → List ℕ
-ground_told text = ground_numbers (job_in (bytes_of text)).job.background
+ground_told text = ground_numbers (held (job_in (bytes_of text))).background
 
 -- 255 images in lines 2 to 256, and n image lines more
 unfoldable pub nearly_full : Job
-nearly_full = record { config = blank_config; opened = 1; background = Clear; entries = replicate 256 blank_entry; count = 255 }
+nearly_full = record { config = blank_config; opened = 1; background = None; entries = replicate 256 blank_entry; count = 255 }
 
 unfoldable pub many : ℕ → List ℕ
-many n = outcome (finished (after 257 (replicate n (bytes_of "image 9 wording 8 7 6")) (state Closed nearly_full)))
+many n = outcome (finished (after 257 (replicate n (bytes_of "image 9 wording 8 7 6")) (Closed nearly_full)))
 
 -- ## numbers
 

@@ -1,15 +1,11 @@
 -- The words of a line, and what kinds of values they are.
 -- Assumes nothing.
-use Rattle.std.specs.Prelude.{ℕ, Bool, true, false, cond, ◌||◌, List, [], leb, get_or}
+use Rattle.std.specs.Prelude.{ℕ, Bool, false, cond, ◌||◌, List, [], Option, Some, None, is_some, unwrap_or, leb, get_or}
 use Rattle.geometry.specs.Words.{only}
 use Rattle.art.specs.declared.memory_rgba8_texture.Store.{Store}
 use Rattle.art.specs.declared.memory_rgba8_texture.Store.TheVariants.{Symbols, Wording}
-use Rattle.paint.specs.declared.background.Threshold.{Threshold}
-use Rattle.paint.specs.declared.background.Threshold.TheVariants.{Unset, AtMost}
 use Rattle.job.specs.Bytes.{up_to, pieces, filled, says, is_hash, is_blank}
 use Rattle.job.specs.Numbers.{number_in}
-use Rattle.job.specs.declared.numbers.Number.{Number}
-use Rattle.job.specs.declared.numbers.Number.TheVariants.{Is, Not}
 
 -- ## the words
 
@@ -30,24 +26,16 @@ word n ws = get_or ws n []
 
 -- ## kinds of values: whether a word is one, and which it is if so
 
-unfoldable pub given : Number → Bool
-given (Is n) = true
-given Not = false
-
-unfoldable pub value_of : Number → ℕ
-value_of (Is n) = n
-value_of Not = 0
-
 unfoldable pub is_number : List ℕ → Bool
-is_number w = given (number_in w)
+is_number w = is_some (number_in w)
 
 unfoldable pub to_number : List ℕ → ℕ
-to_number w = value_of (number_in w)
+to_number w = unwrap_or (number_in w) 0
 
 -- a colour's part: a number to 255
-unfoldable pub small : Number → Bool
-small (Is n) = leb n 255
-small Not = false
+unfoldable pub small : Option ℕ → Bool
+small (Some n) = leb n 255
+small None = false
 
 unfoldable pub is_part : List ℕ → Bool
 is_part w = small (number_in w)
@@ -73,5 +61,5 @@ to_store w = cond (says "symbols" w) Symbols Wording
 unfoldable pub is_threshold : List ℕ → Bool
 is_threshold w = says "none" w || is_part w
 
-unfoldable pub to_threshold : List ℕ → Threshold
-to_threshold w = cond (says "none" w) Unset (AtMost (to_part w))
+unfoldable pub to_threshold : List ℕ → Option ℕ
+to_threshold w = cond (says "none" w) None (Some (to_part w))

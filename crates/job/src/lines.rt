@@ -1,13 +1,16 @@
 // What a line of a job says.
-ghost use Rattle.std.specs.Prelude.{◌≡◌};
+ghost use Rattle.std.specs.Prelude.{◌≡◌, Some};
+ghost use Rattle.job.specs.Meanings.{meaning};
 ghost use Rattle.job.specs.Words.{split};
-ghost use Rattle.job.specs.Lines.{config_ok, config_of, config_line, clear_ok, colour_ok, pixel_of, colour_of, ground_line, image_ok, image_of, image_line, said, line_in};
+ghost use Rattle.job.specs.Steps.{config_in, colour_in, image_in};
+ghost use Rattle.job.specs.Lines.{config_line, clear_ok, ground_line, image_line, said, line_in};
 
 use crate::{values, words};
 use art::memory_rgba8_texture::{Image, Pixel};
-use paint::background::Background;
+use paint::background::{Background, Colour};
 use records::frame::Key;
 use records::texture_packer_config::Config;
+use std::fmt;
 
 // Why a job is refused.
 #[derive(Clone, Copy)]
@@ -26,147 +29,136 @@ pub enum Trouble {
     TooManyImages,
 }
 
+impl fmt::Display for Trouble {
+    ghost output = { λ trouble. Some (meaning trouble) };
+
+    fn fmt<W: fmt::Write>(&self, f: &mut fmt::Formatter<W>) -> fmt::Result {
+        f.write_str(match self {
+            Trouble::UnknownWord => "a line begins with config, background or image",
+            Trouble::BadConfig => {
+                "a config line has 7 numbers (maxw maxh padding border extrusion pages images) and 4 switches, on or off (rotation trim outlines forced)"
+            }
+            Trouble::BadBackground => {
+                "a background line has none; or r g b a to 255, a threshold to 255 or none, and discard on or off"
+            }
+            Trouble::BadImage => "an image line has key, symbols or wording, offset, width, height",
+            Trouble::NoConfig => "the first line with words has to be a config line",
+            Trouble::SecondConfig => "there is a config line already",
+            Trouble::LateBackground => "a background line comes once, before the images",
+            Trouble::TooManyImages => "a job has at most 256 images",
+        })
+    }
+}
+
 #[derive(Clone, Copy)]
 pub enum Line {
     Empty,
     Settings(Config),
     Ground(Background),
     Picture(Key, Image),
-    Malformed(Trouble),
 }
 
 // The functions on `line` up to `plain_line` take a line without its comment.
 
-fn config_ok(line: &[u8]) -> bool
-    ensures { result ≡ config_ok (split line.now) }
+#[tactic(auto, unfolding(crate::specs::Steps::config_in))]
+fn config_in(line: &[u8]) -> Option<Config>
+    ensures { result ≡ config_in (split line.now) }
 {
-    (words::word_count(line) == 12)
-        & values::is_number(line, 1)
-        & values::is_number(line, 2)
-        & values::is_number(line, 3)
-        & values::is_number(line, 4)
-        & values::is_number(line, 5)
-        & values::is_number(line, 6)
-        & values::is_number(line, 7)
-        & values::is_switch(line, 8)
-        & values::is_switch(line, 9)
-        & values::is_switch(line, 10)
-        & values::is_switch(line, 11)
-}
-
-fn config_of(line: &[u8]) -> Config
-    ensures { result ≡ config_of (split line.now) }
-{
-    Config {
-        maxw: values::to_number(line, 1),
-        maxh: values::to_number(line, 2),
-        padding: values::to_number(line, 3),
-        border: values::to_number(line, 4),
-        extrusion: values::to_number(line, 5),
-        pages: values::to_number(line, 6),
-        images: values::to_number(line, 7),
-        rotation: values::to_switch(line, 8),
-        trim: values::to_switch(line, 9),
-        outlines: values::to_switch(line, 10),
-        forced: values::to_switch(line, 11),
+    if words::word_count(line) != 12 {
+        return None;
     }
+    Some(Config {
+        maxw: values::number_at(line, 1)?,
+        maxh: values::number_at(line, 2)?,
+        padding: values::number_at(line, 3)?,
+        border: values::number_at(line, 4)?,
+        extrusion: values::number_at(line, 5)?,
+        pages: values::number_at(line, 6)?,
+        images: values::number_at(line, 7)?,
+        rotation: values::switch_at(line, 8)?,
+        trim: values::switch_at(line, 9)?,
+        outlines: values::switch_at(line, 10)?,
+        forced: values::switch_at(line, 11)?,
+    })
 }
 
-fn config_line(line: &[u8]) -> Line
+fn config_line(line: &[u8]) -> Result<Line, Trouble>
     ensures { result ≡ config_line (split line.now) }
 {
-    if config_ok(line) {
-        return Line::Settings(config_of(line));
-    }
-    Line::Malformed(Trouble::BadConfig)
+    config_in(line)
+        .map(Line::Settings)
+        .ok_or(Trouble::BadConfig)
 }
 
+#[tactic(auto, unfolding(crate::specs::Lines::clear_ok, crate::specs::Bytes::bytes_of))]
 fn clear_ok(line: &[u8]) -> bool
     ensures { result ≡ clear_ok (split line.now) }
 {
-    (words::word_count(line) == 2) & values::is_word(line, 1, b"none")
+    words::word_count(line) == 2 && values::is_word(line, 1, b"none")
 }
 
-fn colour_ok(line: &[u8]) -> bool
-    ensures { result ≡ colour_ok (split line.now) }
+#[tactic(auto, unfolding(crate::specs::Steps::colour_in))]
+fn colour_in(line: &[u8]) -> Option<Colour>
+    ensures { result ≡ colour_in (split line.now) }
 {
-    (words::word_count(line) == 7)
-        & values::is_part(line, 1)
-        & values::is_part(line, 2)
-        & values::is_part(line, 3)
-        & values::is_part(line, 4)
-        & values::is_threshold(line, 5)
-        & values::is_switch(line, 6)
-}
-
-fn pixel_of(line: &[u8]) -> Pixel
-    ensures { result ≡ pixel_of (split line.now) }
-{
-    Pixel {
-        r: values::to_part(line, 1),
-        g: values::to_part(line, 2),
-        b: values::to_part(line, 3),
-        a: values::to_part(line, 4),
+    if words::word_count(line) != 7 {
+        return None;
     }
+    let pixel = Pixel {
+        r: values::part_at(line, 1)?,
+        g: values::part_at(line, 2)?,
+        b: values::part_at(line, 3)?,
+        a: values::part_at(line, 4)?,
+    };
+    Some(Colour {
+        pixel,
+        threshold: values::threshold_at(line, 5)?,
+        discard: values::switch_at(line, 6)?,
+    })
 }
 
-fn colour_of(line: &[u8]) -> Background
-    ensures { result ≡ colour_of (split line.now) }
-{
-    let colour = pixel_of(line);
-    let threshold = values::to_threshold(line, 5);
-    Background::Colour(colour, threshold, values::to_switch(line, 6))
-}
-
-fn ground_line(line: &[u8]) -> Line
+fn ground_line(line: &[u8]) -> Result<Line, Trouble>
     ensures { result ≡ ground_line (split line.now) }
 {
     if clear_ok(line) {
-        return Line::Ground(Background::Clear);
+        return Ok(Line::Ground(None));
     }
-    if colour_ok(line) {
-        return Line::Ground(colour_of(line));
-    }
-    Line::Malformed(Trouble::BadBackground)
+    colour_in(line)
+        .map(|colour| Line::Ground(Some(colour)))
+        .ok_or(Trouble::BadBackground)
 }
 
-fn image_ok(line: &[u8]) -> bool
-    ensures { result ≡ image_ok (split line.now) }
+// The key and the image.
+#[tactic(auto, unfolding(crate::specs::Steps::image_in))]
+fn image_in(line: &[u8]) -> Option<(u32, Image)>
+    ensures { result ≡ image_in (split line.now) }
 {
-    (words::word_count(line) == 6)
-        & values::is_number(line, 1)
-        & values::is_store(line, 2)
-        & values::is_number(line, 3)
-        & values::is_number(line, 4)
-        & values::is_number(line, 5)
-}
-
-fn image_of(line: &[u8]) -> Image
-    ensures { result ≡ image_of (split line.now) }
-{
-    let store = values::to_store(line, 2);
-    Image {
-        store,
-        offset: values::to_number(line, 3),
-        w: values::to_number(line, 4),
-        h: values::to_number(line, 5),
+    if words::word_count(line) != 6 {
+        return None;
     }
+    let key = values::number_at(line, 1)?;
+    let image = Image {
+        store: values::store_at(line, 2)?,
+        offset: values::number_at(line, 3)?,
+        w: values::number_at(line, 4)?,
+        h: values::number_at(line, 5)?,
+    };
+    Some((key, image))
 }
 
-fn image_line(line: &[u8]) -> Line
+fn image_line(line: &[u8]) -> Result<Line, Trouble>
     ensures { result ≡ image_line (split line.now) }
 {
-    if image_ok(line) {
-        return Line::Picture(Key(values::to_number(line, 1)), image_of(line));
-    }
-    Line::Malformed(Trouble::BadImage)
+    image_in(line)
+        .map(|(key, image)| Line::Picture(Key(key), image))
+        .ok_or(Trouble::BadImage)
 }
 
-fn plain_line(line: &[u8]) -> Line
+fn plain_line(line: &[u8]) -> Result<Line, Trouble>
     ensures { result ≡ said (split line.now) }
 {
     if words::word_count(line) == 0 {
-        return Line::Empty;
+        return Ok(Line::Empty);
     }
     if values::is_word(line, 0, b"config") {
         return config_line(line);
@@ -177,12 +169,12 @@ fn plain_line(line: &[u8]) -> Line
     if values::is_word(line, 0, b"image") {
         return image_line(line);
     }
-    Line::Malformed(Trouble::UnknownWord)
+    Err(Trouble::UnknownWord)
 }
 
-pub fn line_of(line: &[u8]) -> Line
+#[tactic(auto, unfolding(crate::specs::Lines::line_in, crate::specs::Words::words_in))]
+pub fn line_of(line: &[u8]) -> Result<Line, Trouble>
     ensures { result ≡ line_in line.now }
 {
-    let end = words::mark_from(line, 0, 35);
-    plain_line(&line[0..end])
+    plain_line(words::before_hash(line))
 }

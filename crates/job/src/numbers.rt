@@ -3,43 +3,26 @@ ghost use Rattle.std.specs.Prelude.{◌≡◌};
 ghost use Rattle.job.specs.Numbers.{number_in};
 ghost use Rattle.job.specs.Steps.{with_digit};
 
-#[derive(Clone, Copy)]
-pub enum Number {
-    Is(u32),
-    Not,
-}
-
 // The number n with one more digit; refused, and never wrapped, past 4294967295.
-fn with_digit(n: u32, b: u8) -> Number
+#[tactic(auto, unfolding(crate::specs::Steps::with_digit))]
+fn with_digit(n: u32, b: u8) -> Option<u32>
     ensures { result ≡ with_digit n b }
 {
-    if b < 48 {
-        return Number::Not;
+    match b {
+        b'0'..=b'9' => n.checked_mul(10)?.checked_add(u32::from(b - b'0')),
+        _ => None,
     }
-    if 57 < b {
-        return Number::Not;
-    }
-    let value = 10 * (n as u64) + ((b - 48) as u64);
-    if 4294967295 < value {
-        return Number::Not;
-    }
-    Number::Is(value as u32)
 }
 
-pub fn number_of(word: &[u8]) -> Number
+pub fn number_of(word: &[u8]) -> Option<u32>
     ensures { result ≡ number_in word.now }
 {
-    if word.len() == 0 {
-        return Number::Not;
+    if word.is_empty() {
+        return None;
     }
-    let mut n: u32 = 0;
-    let mut i = 0;
-    while i < word.len() {
-        let Number::Is(more) = with_digit(n, word[i]) else {
-            return Number::Not;
-        };
-        n = more;
-        i += 1;
+    let mut n = 0;
+    for b in word {
+        n = with_digit(n, *b)?;
     }
-    Number::Is(n)
+    Some(n)
 }

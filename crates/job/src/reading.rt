@@ -1,15 +1,14 @@
 // A job's text, line by line.
-ghost use Rattle.std.specs.Prelude.{◌≡◌, ◌≤◌, ◌<◌};
+ghost use Rattle.std.specs.Prelude.{◌≡◌, ◌≤◌, ◌<◌, IfOk};
 ghost use Rattle.job.specs.Lines.{line_in};
-ghost use Rattle.job.specs.Jobs.{blank_entry, opened_job, blank_job, grounded, entered, state, stopped, with_config, with_ground, next_image, with_image, with_trouble, taken, after, refused, ended, lines_in, job_in};
-ghost use Rattle.job.specs.declared.reading.Stage.TheVariants.{Start};
+ghost use Rattle.job.specs.Jobs.{blank_entry, opened_job, entered, with_config, with_ground, next_image, with_image, stepped, taken, after, ended, lines_in, job_in};
+ghost use Rattle.job.specs.declared.reading.State.TheVariants.{Start};
 
+use crate::lines;
 use crate::lines::{Line, Trouble};
-use crate::{lines, words};
 use art::memory_rgba8_texture::{Image, Store};
 use paint::background::Background;
 use records::frame::Key;
-use records::texture_packer_config;
 use records::texture_packer_config::Config;
 
 // An image to offer, and the number of its line.
@@ -20,6 +19,7 @@ pub struct Entry {
     pub line: usize,
 }
 
+// The entries are an array and a count, because a job has at most 256 and needs no heap.
 #[derive(Clone, Copy)]
 pub struct Job {
     pub config: Config,
@@ -30,252 +30,153 @@ pub struct Job {
     pub count: usize,
 }
 
+// The trouble, and the number of its line.
 #[derive(Clone, Copy)]
-pub enum Outcome {
-    Done,
-    // The trouble, and the number of its line.
-    Refused(Trouble, usize),
+pub struct Malformed {
+    pub trouble: Trouble,
+    pub line: usize,
 }
 
+// Before the config line; after it; after a background or an image.
 #[derive(Clone, Copy)]
-pub struct Parsed {
-    pub outcome: Outcome,
-    pub job: Job,
-}
-
-// Before the config line; after it; after a background or an image; at the first trouble and its line.
-#[derive(Clone, Copy)]
-pub enum Stage {
+pub enum State {
     Start,
-    Open,
-    Closed,
-    Stopped(Trouble, usize),
+    Open(Job),
+    Closed(Job),
 }
 
-#[derive(Clone, Copy)]
-pub struct State {
-    pub stage: Stage,
-    pub job: Job,
-}
-
+#[tactic(auto, unfolding(crate::specs::Jobs::blank_entry))]
 fn blank_entry() -> Entry
     ensures { result ≡ blank_entry }
 {
-    let key = Key(0);
-    let store = Store::Symbols;
-    let image = Image {
-        store,
-        offset: 0,
-        w: 0,
-        h: 0,
-    };
     Entry {
-        key,
-        image,
+        key: Key(0),
+        image: Image {
+            store: Store::Symbols,
+            offset: 0,
+            w: 0,
+            h: 0,
+        },
         line: 0,
     }
 }
 
-fn opened_job(c: Config, line: usize) -> Job
-    ensures { result ≡ opened_job c line }
+#[tactic(auto, unfolding(crate::specs::Jobs::opened_job))]
+fn opened_job(config: Config, line: usize) -> Job
+    ensures { result ≡ opened_job config line }
 {
-    let blank = blank_entry();
-    let background = Background::Clear;
     Job {
-        config: c,
+        config,
         opened: line,
-        background,
-        entries: [blank; 256],
+        background: None,
+        entries: [blank_entry(); 256],
         count: 0,
     }
 }
 
-fn blank_job() -> Job
-    ensures { result ≡ blank_job }
+#[tactic(auto, unfolding(crate::specs::Jobs::entered))]
+fn entered_job(mut job: Job, key: Key, image: Image, line: usize) -> Job
+    requires { job.count < 256 }
+    ensures { result ≡ entered job key image line }
 {
-    opened_job(texture_packer_config::blank_config(), 0)
+    job.entries[job.count] = Entry { key, image, line };
+    job.count += 1;
+    job
 }
 
-fn grounded_job(j: Job, g: Background) -> Job
-    ensures { result ≡ grounded j g }
+#[tactic(auto, unfolding(crate::specs::Jobs::with_config))]
+fn with_config(config: Config, n: usize, state: State) -> Result<State, Trouble>
+    ensures { result ≡ with_config config n state }
 {
-    let config = j.config;
-    let entries = j.entries;
-    Job {
-        config,
-        opened: j.opened,
-        background: g,
-        entries,
-        count: j.count,
+    match state {
+        State::Start => Ok(State::Open(opened_job(config, n))),
+        State::Open(_) | State::Closed(_) => Err(Trouble::SecondConfig),
     }
 }
 
-fn entered_job(j: Job, key: Key, image: Image, line: usize) -> Job
-    requires { j.count < 256 }
-    ensures { result ≡ entered j key image line }
+#[tactic(auto, unfolding(crate::specs::Jobs::with_ground, crate::specs::Jobs::grounded))]
+fn with_ground(background: Background, state: State) -> Result<State, Trouble>
+    ensures { result ≡ with_ground background state }
 {
-    let config = j.config;
-    let background = j.background;
-    let mut entries = j.entries;
-    let at = j.count;
-    entries[at] = Entry { key, image, line };
-    Job {
-        config,
-        opened: j.opened,
-        background,
-        entries,
-        count: at + 1,
+    match state {
+        State::Start => Err(Trouble::NoConfig),
+        State::Open(job) => Ok(State::Closed(Job { background, ..job })),
+        State::Closed(_) => Err(Trouble::LateBackground),
     }
 }
 
-fn stop(t: Trouble, n: usize) -> State
-    ensures { result ≡ stopped t n }
+#[tactic(auto, unfolding(crate::specs::Jobs::next_image))]
+fn next_image(key: Key, image: Image, n: usize, job: Job) -> Result<State, Trouble>
+    ensures { result ≡ next_image key image n job }
 {
-    let stage = Stage::Stopped(t, n);
-    State {
-        stage,
-        job: blank_job(),
+    if job.count < 256 {
+        return Ok(State::Closed(entered_job(job, key, image, n)));
+    }
+    Err(Trouble::TooManyImages)
+}
+
+#[tactic(auto, unfolding(crate::specs::Jobs::with_image))]
+fn with_image(key: Key, image: Image, n: usize, state: State) -> Result<State, Trouble>
+    ensures { result ≡ with_image key image n state }
+{
+    match state {
+        State::Start => Err(Trouble::NoConfig),
+        State::Open(job) | State::Closed(job) => next_image(key, image, n, job),
     }
 }
 
-fn with_config(c: Config, n: usize, stage: Stage) -> State
-    ensures { result ≡ with_config c n stage }
+// The state after what line n says.
+#[tactic(auto, unfolding(crate::specs::Jobs::stepped))]
+fn step(n: usize, line: Line, state: State) -> Result<State, Trouble>
+    ensures { result ≡ stepped n line state }
 {
-    match stage {
-        Stage::Start => State {
-            stage: Stage::Open,
-            job: opened_job(c, n),
-        },
-        Stage::Open => stop(Trouble::SecondConfig, n),
-        Stage::Closed => stop(Trouble::SecondConfig, n),
-        Stage::Stopped(t, k) => stop(t, k),
-    }
-}
-
-fn with_ground(g: Background, n: usize, stage: Stage, j: Job) -> State
-    ensures { result ≡ with_ground g n stage j }
-{
-    match stage {
-        Stage::Start => stop(Trouble::NoConfig, n),
-        Stage::Open => State {
-            stage: Stage::Closed,
-            job: grounded_job(j, g),
-        },
-        Stage::Closed => stop(Trouble::LateBackground, n),
-        Stage::Stopped(t, k) => stop(t, k),
-    }
-}
-
-fn next_image(key: Key, image: Image, n: usize, j: Job) -> State
-    ensures { result ≡ next_image key image n j }
-{
-    if j.count < 256 {
-        return State {
-            stage: Stage::Closed,
-            job: entered_job(j, key, image, n),
-        };
-    }
-    stop(Trouble::TooManyImages, n)
-}
-
-fn with_image(key: Key, image: Image, n: usize, stage: Stage, j: Job) -> State
-    ensures { result ≡ with_image key image n stage j }
-{
-    match stage {
-        Stage::Start => stop(Trouble::NoConfig, n),
-        Stage::Open => next_image(key, image, n, j),
-        Stage::Closed => next_image(key, image, n, j),
-        Stage::Stopped(t, k) => stop(t, k),
-    }
-}
-
-// The first trouble is kept.
-fn with_trouble(t: Trouble, n: usize, stage: Stage) -> State
-    ensures { result ≡ with_trouble t n stage }
-{
-    match stage {
-        Stage::Start => stop(t, n),
-        Stage::Open => stop(t, n),
-        Stage::Closed => stop(t, n),
-        Stage::Stopped(u, k) => stop(u, k),
-    }
-}
-
-// The state after line n.
-fn take_line(n: usize, line: Line, s: State) -> State
-    ensures { result ≡ taken n line s }
-{
-    let stage = s.stage;
-    let j = s.job;
     match line {
-        Line::Empty => s,
-        Line::Settings(c) => with_config(c, n, stage),
-        Line::Ground(g) => with_ground(g, n, stage, j),
-        Line::Picture(key, image) => with_image(key, image, n, stage, j),
-        Line::Malformed(t) => with_trouble(t, n, stage),
+        Line::Empty => Ok(state),
+        Line::Settings(config) => with_config(config, n, state),
+        Line::Ground(background) => with_ground(background, state),
+        Line::Picture(key, image) => with_image(key, image, n, state),
     }
 }
 
-fn read_line(n: usize, line: &[u8], s: State) -> State
-    ensures { result ≡ taken n (line_in line.now) s }
+// The state after line n, or its trouble.
+#[tactic(auto, unfolding(crate::specs::Jobs::taken))]
+fn read_line(n: usize, line: &[u8], state: State) -> Result<State, Malformed>
+    ensures { result ≡ taken n (line_in line.now) state }
 {
-    take_line(n, lines::line_of(line), s)
+    let at_line = |trouble| Malformed { trouble, line: n };
+    let said = lines::line_of(line).map_err(at_line)?;
+    step(n, said, state).map_err(at_line)
 }
 
 // The state after every line.
-fn read_lines(text: &[u8]) -> State
-    ensures { result ≡ after 1 (lines_in text.now) (state Start blank_job) }
+fn read_lines(text: &[u8]) -> Result<State, Malformed>
+    ensures { result ≡ after 1 (lines_in text.now) Start }
 {
-    let stage = Stage::Start;
-    let mut s = State {
-        stage,
-        job: blank_job(),
-    };
-    let mut n = 1;
-    let mut at = 0;
-    while at <= text.len() {
-        let end = words::mark_from(text, at, 10);
-        s = read_line(n, &text[at..end], s);
-        at = end + 1;
-        n += 1;
+    let mut state = State::Start;
+    for (i, line) in text.split(|b| *b == b'\n').enumerate() {
+        state = read_line(i + 1, line, state)?;
     }
-    s
-}
-
-fn refuse(t: Trouble, n: usize) -> Parsed
-    ensures { result ≡ refused t n }
-{
-    let outcome = Outcome::Refused(t, n);
-    Parsed {
-        outcome,
-        job: blank_job(),
-    }
+    Ok(state)
 }
 
 // At the end of the text.
-fn end_job(stage: Stage, j: Job) -> Parsed
-    ensures { result ≡ ended stage j }
+#[tactic(auto, unfolding(crate::specs::Jobs::ended))]
+fn end_job(state: State) -> Result<Job, Malformed>
+    ensures { result ≡ ended state }
 {
-    match stage {
-        Stage::Start => refuse(Trouble::NoConfig, 1),
-        Stage::Open => Parsed {
-            outcome: Outcome::Done,
-            job: j,
-        },
-        Stage::Closed => Parsed {
-            outcome: Outcome::Done,
-            job: j,
-        },
-        Stage::Stopped(t, n) => refuse(t, n),
+    match state {
+        State::Start => Err(Malformed {
+            trouble: Trouble::NoConfig,
+            line: 1,
+        }),
+        State::Open(job) | State::Closed(job) => Ok(job),
     }
 }
 
-pub fn read_job(text: &[u8]) -> Parsed
+pub fn read_job(text: &[u8]) -> Result<Job, Malformed>
     ensures value { result ≡ job_in text.now }
-    ensures count_bound { result.job.count ≤ 256 }
+    ensures count_bound { IfOk result (λ job. job.count ≤ 256) }
 {
-    let s = read_lines(text);
-    let stage = s.stage;
-    let j = s.job;
-    end_job(stage, j)
+    let state = read_lines(text)?;
+    end_job(state)
 }

@@ -1,98 +1,37 @@
 // The words of a line: bytes between blanks, before a comment.
-ghost use Rattle.std.specs.Prelude.{◌≡◌, ◌+◌, eqb, length, drop};
-ghost use Rattle.job.specs.Bytes.{up_to, same, is_blank};
-ghost use Rattle.job.specs.Words.{split};
-ghost use Rattle.job.specs.Steps.{Lies};
-
-// A part of a line: from `from` to before `to`.
-#[derive(Clone, Copy)]
-pub struct Span {
-    pub from: usize,
-    pub to: usize,
-}
+ghost use Rattle.std.specs.Prelude.{◌≡◌, length, option_copied, slice_get};
+ghost use Rattle.job.specs.Bytes.{is_blank};
+ghost use Rattle.job.specs.Words.{uncommented, split};
 
 // Space, tab, carriage return.
 fn is_blank(b: u8) -> bool
     ensures { result ≡ is_blank b }
 {
-    (b == 32) | (b == 9) | (b == 13)
+    matches!(b, b' ' | b'\t' | b'\r')
 }
 
-// The place of the first such byte from `at` on, or the end.
-pub fn mark_from(text: &[u8], at: usize, mark: u8) -> usize
-    ensures { result ≡ at + length (up_to (λ b. eqb b mark) (drop at text.now)) }
+// The line before its comment, if it has one.
+pub fn before_hash(line: &[u8]) -> &[u8]
+    ensures { result.now ≡ uncommented line.now }
 {
-    let mut i = at;
-    while i < text.len() {
-        if text[i] == mark {
-            return i;
-        }
-        i += 1;
-    }
-    i
-}
-
-// The place of the first blank from `at` on, or the end.
-fn blank_from(text: &[u8], at: usize) -> usize
-    ensures { result ≡ at + length (up_to is_blank (drop at text.now)) }
-{
-    let mut i = at;
-    while i < text.len() {
-        if is_blank(text[i]) {
-            return i;
-        }
-        i += 1;
-    }
-    i
-}
-
-pub fn is_same(word: &[u8], wanted: &[u8]) -> bool
-    ensures { result ≡ same word.now wanted.now }
-{
-    if word.len() != wanted.len() {
-        return false;
-    }
-    let mut i = 0;
-    while i < word.len() {
-        if word[i] != wanted[i] {
-            return false;
-        }
-        i += 1;
-    }
-    true
+    let end = line.iter().position(|b| *b == b'#').unwrap_or(line.len());
+    &line[..end]
 }
 
 // How many words a line without comments has.
 pub fn word_count(line: &[u8]) -> usize
     ensures { result ≡ length (split line.now) }
 {
-    let mut count = 0;
-    let mut at = 0;
-    while at < line.len() {
-        let end = blank_from(line, at);
-        if at < end {
-            count += 1;
-        }
-        at = end + 1;
-    }
-    count
+    line.split(|b| is_blank(*b))
+        .filter(|w| !w.is_empty())
+        .count()
 }
 
-// Where word n of a line without comments lies.
-pub fn word_place(line: &[u8], n: usize) -> Span
-    ensures { Lies line.now n result }
+// Word n of a line without comments, counted from 0; none past the last.
+pub fn word_at(line: &[u8], n: usize) -> Option<&[u8]>
+    ensures { option_copied result ≡ slice_get (split line.now) n }
 {
-    let mut left = n;
-    let mut at = 0;
-    while at < line.len() {
-        let end = blank_from(line, at);
-        if at < end {
-            if left == 0 {
-                return Span { from: at, to: end };
-            }
-            left -= 1;
-        }
-        at = end + 1;
-    }
-    Span { from: 0, to: 0 }
+    line.split(|b| is_blank(*b))
+        .filter(|w| !w.is_empty())
+        .nth(n)
 }

@@ -1,15 +1,19 @@
-use mathlib.Core.Path.{sym, ap, ◌∙◌}
-use Rattle.job.specs.Lines.{config_of, config_line}
+use mathlib.Core.Path.{◌≡◌, ap, ◌∙◌}
+use borrow.Author.Rules.{rules}
+use Rattle.std.specs.Prelude.{Option, option_map, ok_or}
 use Rattle.job.specs.Words.{split}
-use Rattle.job.specs.declared.lines.Line.TheVariants.{Settings, Malformed}
+use Rattle.job.specs.Lines.{config_ok, config_of, config_line}
+use Rattle.job.specs.declared.lines.Line.{Line}
+use Rattle.job.specs.declared.lines.Line.TheVariants.{Settings}
 use Rattle.job.specs.declared.lines.Trouble.TheVariants.{BadConfig}
-use Rattle.job.proofs.Picks.{picked, passed}
+use Rattle.job.proofs.WordByWord.{config_is, told}
 use Rattle.job.proofs.lines.config_line.Goals as goal
-
-pub returns-then-config_ok : goal.returns-then-config_ok
-unfolding config_line
-returns-then-config_ok c = ap Settings c.config_of.ensures ∙ picked (Malformed BadConfig) (sym c.config_ok.ensures ∙ c.if-config_ok.true)
 
 pub returns : goal.returns
 unfolding config_line
-returns c = passed (Settings (config_of (split c.args.line.now))) (sym c.config_ok.ensures ∙ c.if-config_ok.false)
+returns c =
+    let ws = split c.args.line.now in
+    let mapped : c.map.result ≡ option_map Settings c.config_in.result = search rules in
+    c.ok_or.ensures.value
+    ∙ ap (λ (o : Option Line). ok_or o BadConfig) (mapped ∙ ap (option_map Settings) (c.config_in.ensures ∙ config_is ws))
+    ∙ told Settings BadConfig (config_ok ws) (config_of ws)

@@ -2,7 +2,7 @@ use mathlib.Core.Path.{sym, ◌∙◌}
 use Rattle.job.specs.Bytes.{bytes_of}
 use Rattle.job.specs.Words.{split}
 use Rattle.job.specs.Lines.{config_line, ground_line, image_line}
-use Rattle.job.specs.declared.lines.Line.TheVariants.{Malformed}
+use Rattle.std.specs.Prelude.{Err}
 use Rattle.job.specs.declared.lines.Trouble.TheVariants.{UnknownWord}
 use Rattle.job.proofs.Picks.{picked, passed}
 use Rattle.job.proofs.Sayings.{or_image, or_ground, said-none, said-some}
@@ -33,7 +33,7 @@ returns-then-is_word-3 c =
     let ws = split c.args.line.now in
     let n = said-some ws (λ e. c.if-word_count-eq0.false (c.word_count.ensures ∙ e)) in
     c.image_line.ensures
-    ∙ picked (Malformed UnknownWord) (sym c.is_word-3.ensures ∙ c.if-is_word-3.true)
+    ∙ picked (Err UnknownWord) (sym c.is_word-3.ensures ∙ c.if-is_word-3.true)
     ∙ passed (ground_line ws) (sym c.is_word-2.ensures ∙ c.if-is_word-2.false)
     ∙ passed (config_line ws) (sym c.is_word.ensures ∙ c.if-is_word.false)
     ∙ sym n

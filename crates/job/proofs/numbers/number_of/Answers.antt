@@ -1,58 +1,55 @@
-use Prim.Native.Nat.{ℕ, ◌+◌}
+use Prim.Native.Nat.{ℕ, ◌+◌, ◌<◌}
 use native.Mathlib.Omega.{arith}
 use native.Mathlib.Numerals.{add-one}
-use mathlib.Core.Path.{◌≡◌, refl, sym, ap, ◌∙◌}
+use mathlib.Core.Path.{◌≡◌, sym, ap, ◌∙◌}
 use mathlib.Core.List.{◌∷◌}
-use lib.ListN.{drop, get_or, drop_of_length-le}
+use lib.ListN.{length, drop, get_or, drop_of_length-le}
 use lib.Seq.{drop-cons}
 use borrow.Author.Rules.{rules}
+use borrow.Author.Tests.{tests}
+use Rattle.std.specs.Prelude.{Some, None}
 use Rattle.job.specs.Steps.{with_digit}
-use Rattle.job.specs.declared.numbers.Number.TheVariants.{Is, Not}
 use Rattle.job.proofs.Digits.{digits_from, goes, stops, ends, whole, none}
-use Rattle.job.proofs.numbers.number_of.Goals.{After-shared_slice_known-in-loop-i-1}
-use Rattle.job.proofs.numbers.number_of.Goals.{In-Is}
+use Rattle.job.proofs.numbers.number_of.Goals.{After-is_empty, In-loop-b}
 use Rattle.job.proofs.numbers.number_of.Goals as goal
 
 -- the number so far, and the digit that comes
-next : (c : After-shared_slice_known-in-loop-i-1)
+next : (c : In-loop-b)
     → digits_from 0 c.args.word.now
-    ≡ digits_from c.loop-i.n (get_or c.args.word.now c.loop-i.i 0 ∷ drop (c.loop-i.i + 1) c.args.word.now)
+    ≡ digits_from c.loop-b.n (get_or c.args.word.now c.loop-b.b-index 0 ∷ drop (c.loop-b.b-index + 1) c.args.word.now)
 next c =
-    let l = c.loop-i in
+    let l = c.loop-b in
     let word = c.args.word.now in
-    let cut = drop-cons word l.i 0 c.loop-i-test.true in
-    let one = ap (λ (k : ℕ). get_or word l.i 0 ∷ drop k word) (sym (add-one l.i)) in
-    l.invariant.2 ∙ ap (digits_from l.n) (cut ∙ one)
+    let cut = drop-cons word l.b-index 0 c.loop-b-test.true in
+    let one = ap (λ (k : ℕ). get_or word l.b-index 0 ∷ drop k word) (sym (add-one l.b-index)) in
+    l.invariant.1 ∙ ap (digits_from l.n) (cut ∙ one)
 
-is-more : (c : In-Is) → c.with_digit.result ≡ Is c.in-Is.more
-is-more c = cc
+pub returns-then-is_empty : goal.returns-then-is_empty
+returns-then-is_empty c = sym (none _ (search (rules, tests)))
 
-pub returns-then-word-eq0 : goal.returns-then-word-eq0
-returns-then-word-eq0 c = sym (none _ c.if-word-eq0.true)
-
-pub loop-i-init : goal.loop-i-init
-loop-i-init c = (omega arith, omega arith, refl)
-
-pub returns-in_default : goal.returns-in_default
-returns-in_default c =
-    let l = c.loop-i in
-    let t = c.loop-i-test.true in
+pub returns-in_err-n : goal.returns-in_err-n
+returns-in_err-n c =
+    let l = c.loop-b in
     let word = c.args.word.now in
-    let e : with_digit l.n (get_or word l.i 0) ≡ Not = sym c.with_digit.ensures ∙ c.in_default.is in
-    sym (whole word (omega arith) ∙ next (goal.at.returns-in_default c).After-shared_slice_known-in-loop-i-1 ∙ stops l.n (get_or word l.i 0) (drop (l.i + 1) word) e)
+    let b = get_or word l.b-index 0 in
+    let t = c.loop-b-test.true in
+    let e : with_digit l.n b ≡ None = sym c.with_digit.ensures ∙ c.in_err-n.was in
+    c.from_residual.ensures
+    ∙ sym (whole word (omega arith) ∙ next (goal.at.returns-in_err-n c).In-loop-b ∙ stops l.n b (drop (l.b-index + 1) word) e)
 
-pub loop-i-preserved : goal.loop-i-preserved
-loop-i-preserved c =
-    let l = c.loop-i in
+pub loop-b-preserved : goal.loop-b-preserved
+loop-b-preserved c =
+    let l = c.loop-b in
     let word = c.args.word.now in
-    let e : with_digit l.n (get_or word l.i 0) ≡ Is c.in-Is.more = sym c.with_digit.ensures ∙ is-more (goal.at.loop-i-preserved c).In-Is in
-    let g = goes l.n (get_or word l.i 0) c.in-Is.more (drop (l.i + 1) word) e in
-    (search rules, g.1, next (goal.at.loop-i-preserved c).After-shared_slice_known-in-loop-i-1 ∙ g.0)
+    let b = get_or word l.b-index 0 in
+    let e : with_digit l.n b ≡ Some c.in_ok-n.n = sym c.with_digit.ensures ∙ c.in_ok-n.was in
+    let g = goes l.n b c.in_ok-n.n (drop (l.b-index + 1) word) e in
+    (g.1, next (goal.at.loop-b-preserved c).In-loop-b ∙ g.0)
 
 pub returns : goal.returns
 returns c =
-    let l = c.loop-i in
+    let l = c.loop-b in
     let word = c.args.word.now in
-    let n = c.if-word-eq0.false in
-    let past = drop_of_length-le word c.loop-i-test.false in
-    sym (whole word (omega arith) ∙ l.invariant.2 ∙ ap (digits_from l.n) past ∙ ends l.n l.invariant.1)
+    let filled : 0 < length word = search (rules, tests) in
+    let past = drop_of_length-le word c.loop-b-test.false in
+    sym (whole word filled ∙ l.invariant.1 ∙ ap (digits_from l.n) past ∙ ends l.n l.invariant.0)

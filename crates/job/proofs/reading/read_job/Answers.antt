@@ -1,15 +1,25 @@
+use mathlib.Core.Path.{◌≡◌, sym, ap, ◌∙◌, subst}
 use Prim.Native.Nat.{◌≤◌}
-use mathlib.Core.Path.{◌≡◌, sym, ap, subst, ◌∙◌}
-use Rattle.job.specs.Jobs.{finished, job_in}
-use Rattle.job.specs.declared.reading.Parsed.{Parsed}
-use Rattle.job.proofs.Limits.{job_fair}
-use Rattle.job.proofs.reading.read_job.Goals.{After-end_job}
+use borrow.Author.Rules.{rules}
+use Rattle.std.specs.Prelude.{Result, Err, IfOk}
+use Rattle.job.specs.Jobs.{unless_malformed, ended, job_in}
+use Rattle.job.specs.declared.reading.Job.{Job}
+use Rattle.job.specs.declared.reading.Malformed.{Malformed}
+use Rattle.job.proofs.Limits.{job_few}
 use Rattle.job.proofs.reading.read_job.Goals as goal
 
--- the answer, and how many images it has at most
-is-job : (c : After-end_job) → c.end_job.result ≡ job_in c.args.text.now
+pub returns-in_err-state-clause-value : goal.returns-in_err-state-clause-value
 unfolding job_in
-is-job c = c.end_job.ensures ∙ ap finished c.read_lines-s.ensures
+returns-in_err-state-clause-value c =
+    let e : c.from_residual.result ≡ Err c.in_err-state.field-0.0 = search rules in
+    e ∙ ap (unless_malformed ended) (sym c.in_err-state.was ∙ c.read_lines.ensures)
 
-pub returns : goal.returns
-returns c = record { value = is-job c; count_bound = subst (λ (p : Parsed). p.job.count ≤ 256) (sym (is-job c)) (job_fair c.args.text.now).few }
+value : (c : goal.After-end_job) → c.end_job.result ≡ job_in c.args.text.now
+unfolding job_in
+value c = c.end_job.ensures ∙ ap (unless_malformed ended) (sym c.in_ok-state.was ∙ c.read_lines.ensures)
+
+pub returns-clause-value : goal.returns-clause-value
+returns-clause-value c = value c
+
+pub returns-clause-count_bound : goal.returns-clause-count_bound
+returns-clause-count_bound c = subst (λ (r : Result Job Malformed). IfOk r (λ (j : Job). j.count ≤ 256)) (sym (value c)) (job_few c.args.text.now)

@@ -1,58 +1,69 @@
-use Prim.Native.Nat.{ℕ, ◌+◌, ◌-◌, ◌≤◌}
+use Prim.Native.Nat.{ℕ, ◌+◌, ◌<◌}
 use native.Mathlib.Omega.{arith}
-use mathlib.Core.Path.{sym, ap, ◌∙◌}
-use mathlib.Core.List.{List}
-use lib.ListN.{length, take, drop}
+use mathlib.Core.Path.{◌≡◌, sym, ap, ◌∙◌}
+use mathlib.Core.List.{List, [], ◌∷◌, ◌++◌}
+use lib.ListN.{length, drop, get_or, length-append}
 use borrow.Author.Rules.{rules}
+use borrow.Author.Tests.{tests}
+use Rattle.std.specs.Prelude.{Err}
+use Rattle.std.proofs.lemmas.Iterator.Consumers.{YieldsList-from_enumerate, YieldsList-at, YieldsList-turn, YieldsList-end}
+use Rattle.std.proofs.lemmas.Iterator.Splits.{YieldsList-from_slice_split}
 use Rattle.job.specs.Bytes.{is_feed}
-use Rattle.job.specs.Jobs.{after}
-use Rattle.job.proofs.Pieces.{end_inside}
-use Rattle.job.proofs.Readings.{left, begins, none_left, next_line, takes, at_end_lem}
-use Rattle.job.proofs.reading.read_lines.Goals.{After-mark_from-end}
+use Rattle.job.specs.Jobs.{unless_malformed, after, lines_in}
+use Rattle.job.proofs.Readings.{numbered, taken_here, none_left}
+use Rattle.job.proofs.reading.read_lines.Goals.{In-Some, In-None}
 use Rattle.job.proofs.reading.read_lines.Goals as goal
 
--- the line's end lies in the text
-ends : (c : After-mark_from-end)
-    → (c.loop-at.at ≤ c.mark_from-end.result) × (c.mark_from-end.result ≤ length c.args.text.now)
-ends c = end_inside is_feed c.args.text.now c.loop-at.at c.mark_from-end.result c.mark_from-end.ensures c.loop-at-test.true
+-- the line of this turn
+turn : (c : In-Some)
+    → (length c.loop-i.yielded < length (numbered c.args.text.now))
+    × ◌≡◌ {A = ℕ × List ℕ} (c.in-Some.i, c.in-Some.line.now) (get_or (numbered c.args.text.now) (length c.loop-i.yielded) (c.in-Some.i, c.in-Some.line.now))
+turn c =
+    YieldsList-turn
+    (YieldsList-at c.into_iter-i-iterator.ensures.into_iter_gives
+    (YieldsList-from_enumerate
+    (YieldsList-at c.enumerate-i-items.ensures.source
+    (YieldsList-from_slice_split _ is_feed c.args.text.now c.split.ensures.rest c.split.ensures.done c.split.ensures.closure (λ x b q k. search (rules, tests))))
+    c.enumerate-i-items.ensures.count))
+    c.loop-i.yielded c.loop-i.i-iterator c.loop-i.yielded_by c.next.result c.next.new.self (c.in-Some.i, c.in-Some.line) c.in-Some.is c.next.ensures.steps
 
-pub loop-at-init : goal.loop-at-init
-loop-at-init c = (omega arith, omega arith, begins _ _ c.blank_job.ensures)
-
-pub slice_bounds-read_line-count : goal.slice_bounds-read_line-count
-slice_bounds-read_line-count c = let e = ends c in search rules
-
-pub slice_bounds-read_line-start : goal.slice_bounds-read_line-start
-slice_bounds-read_line-start c = let e = ends c in search rules
-
-pub slice_bounds-read_line-end : goal.slice_bounds-read_line-end
-slice_bounds-read_line-end c = let e = ends c in search rules
-
-pub overflow_add-at : goal.overflow_add-at
-overflow_add-at c = let e = ends (goal.at.overflow_add-at c).After-mark_from-end in search rules
-
-pub overflow_add-n : goal.overflow_add-n
-overflow_add-n c = let e = ends (goal.at.overflow_add-n c).After-mark_from-end in let i = c.loop-at.invariant.1 in search rules
-
-pub loop-at-smaller : goal.loop-at-smaller
-loop-at-smaller c = let e = ends (goal.at.loop-at-smaller c).After-mark_from-end in search rules
-
-pub loop-at-preserved : goal.loop-at-preserved
-loop-at-preserved c =
-    let l = c.loop-at in
+pub returns-in_err-state : goal.returns-in_err-state
+returns-in_err-state c =
+    let e : c.from_residual.result ≡ Err c.in_err-state.field-0.0 = search rules in
+    let t = turn (goal.at.returns-in_err-state c).In-Some in
+    let k = length c.loop-i.yielded in
     let text = c.args.text.now in
-    let rest = left text (c.mark_from-end.result + 1) in
-    let e = ends (goal.at.loop-at-preserved c).After-mark_from-end in
-    let here = ap (λ (ls : List (List ℕ)). after l.n ls l.s) (next_line text l.at c.mark_from-end.result c.mark_from-end.ensures c.loop-at-test.true) in
-    let taking = takes l.n (take (c.mark_from-end.result - l.at) (drop l.at text)) rest l.s in (
-      omega arith,
-      omega arith,
-      l.invariant.2 ∙ here ∙ taking ∙ ap (after (l.n + 1) rest) (sym c.read_line-s.ensures),
+    e
+    ∙ sym
+    (c.loop-i.invariant.2
+    ∙ taken_here text k c.in-Some.i c.in-Some.line.now t.0 t.1 c.loop-i.state c.read_line.ensures
+    ∙ ap (unless_malformed (after (k + 1 + 1) (drop (k + 1) (lines_in text)))) c.in_err-state.was)
+
+grown : {A : Type 0} (xs : List A) (x : A) → length (xs ++ x ∷ []) ≡ length xs + 1
+grown xs x = omega (arith, length-append xs (x ∷ []))
+
+pub loop-i-preserved : goal.loop-i-preserved
+loop-i-preserved c =
+    let t = turn (goal.at.loop-i-preserved c).In-Some in
+    let k = length c.loop-i.yielded in
+    let text = c.args.text.now in
+    let one = grown c.loop-i.yielded (c.in-Some.i, c.in-Some.line) in (
+      search rules,
+      search rules,
+      c.loop-i.invariant.2
+          ∙ taken_here text k c.in-Some.i c.in-Some.line.now t.0 t.1 c.loop-i.state c.read_line.ensures
+          ∙ ap (unless_malformed (after (k + 1 + 1) (drop (k + 1) (lines_in text)))) c.in_ok-state.was
+          ∙ ap (λ (n : ℕ). after (n + 1) (drop n (lines_in text)) c.in_ok-state.state) (sym one),
     )
 
 pub returns : goal.returns
 returns c =
-    let l = c.loop-at in
-    let text = c.args.text.now in
-    let none = ap (λ (ls : List (List ℕ)). after l.n ls l.s) (none_left text l.at c.loop-at-test.false) in
-    sym (l.invariant.2 ∙ none ∙ at_end_lem l.n l.s)
+    let last =
+    YieldsList-end
+    (YieldsList-at c.into_iter-i-iterator.ensures.into_iter_gives
+    (YieldsList-from_enumerate
+    (YieldsList-at c.enumerate-i-items.ensures.source
+    (YieldsList-from_slice_split _ is_feed c.args.text.now c.split.ensures.rest c.split.ensures.done c.split.ensures.closure (λ x b q k. search (rules, tests))))
+    c.enumerate-i-items.ensures.count))
+    c.loop-i.yielded c.loop-i.i-iterator c.loop-i.yielded_by c.next.result c.next.new.self c.in-None.is c.next.ensures.steps in
+    sym (c.loop-i.invariant.2 ∙ none_left c.args.text.now (length c.loop-i.yielded) c.loop-i.state last.1)

@@ -1,7 +1,0 @@
-use mathlib.Core.Path.{refl}
-use Rattle.job.specs.Jobs.{entered}
-use Rattle.job.proofs.reading.entered_job.Goals as goal
-
-pub returns : goal.returns
-unfolding entered
-returns c = refl

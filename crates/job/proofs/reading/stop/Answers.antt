@@ -1,7 +1,0 @@
-use mathlib.Core.Path.{ap}
-use Rattle.job.specs.Jobs.{state}
-use Rattle.job.specs.declared.reading.Stage.TheVariants.{Stopped}
-use Rattle.job.proofs.reading.stop.Goals as goal
-
-pub returns : goal.returns
-returns c = ap (state (Stopped c.args.t c.args.n)) c.blank_job.ensures

@@ -1,7 +1,0 @@
-use Rattle.job.specs.Bytes.{bytes_of}
-use Rattle.job.specs.Words.{to_switch}
-use Rattle.job.proofs.values.to_switch.Goals as goal
-
-pub returns : goal.returns
-unfolding to_switch bytes_of
-returns c = c.is_word.ensures

@@ -1,0 +1,16 @@
+use Rattle.std.proofs.Common.{rules, ap, ◌∙◌, slice_get, List, ℕ}
+use borrow.Author.Tests.{tests}
+use Rattle.std.proofs.lemmas.Iterator.Consumers.{nth_from_yields_List, YieldsList-from_filter, YieldsList-at}
+use Rattle.std.proofs.lemmas.Iterator.Splits.{YieldsList-from_slice_split}
+use Rattle.job.specs.Bytes.{is_blank, filled}
+use Rattle.job.proofs.Splits.{split_is, told_filled}
+use Rattle.job.proofs.words.word_at.Goals as goal
+
+pub returns : goal.returns
+returns c =
+    nth_from_yields_List c.nth.result c.nth.new.self c.args.n c.nth.ensures.ran
+    (YieldsList-from_filter _ filled
+    (YieldsList-at c.filter.ensures.source
+    (YieldsList-from_slice_split _ is_blank c.args.line.now c.split.ensures.rest c.split.ensures.done c.split.ensures.closure (λ x b q k. search (rules, tests))))
+    c.filter.ensures.closure (λ x b q k. search (rules, tests, told_filled)))
+    ∙ ap (λ (ws : List (List ℕ)). slice_get ws c.args.n) (split_is c.args.line.now)
