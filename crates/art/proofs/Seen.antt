@@ -3,10 +3,14 @@ use Prim.Native.Nat.{ℕ, zero, suc, ◌+◌, ◌-◌, ◌≤◌, ◌<◌}
 use native.Mathlib.Omega.{arith}
 use native.Mathlib.Decide.{ℕ_discrete, dec_lt}
 use mathlib.Core.Path.{◌≡◌, refl, sym, ap, ◌∙◌, subst}
-use mathlib.Core.Bool.{Bool, true, false}
+use mathlib.Core.Bool.{Bool, true, false, not}
 use mathlib.Core.Logic.{◌⊎◌, inl, inr}
 use mathlib.Core.Option.{some}
 use borrow.Author.Count.{below_more}
+use lib.ListN.{length, get_or}
+use Rattle.std.specs.Bool.{MatchBool}
+use Rattle.std.specs.List.{AllWithin, HoldsAt, range_with_len}
+use Rattle.std.proofs.lemmas.List.FromFn.{length-range_with_len, get_or-range_with_len}
 use Rattle.geometry.specs.Words.{from, any, only, earliest, or_else}
 use Rattle.geometry.proofs.Words.{not_both, earliest-at, earliest-none}
 use Rattle.geometry.proofs.Members.{any_in, any-true, from_in, from_mem, only_in, only_mem, greatest-le, greatest_least}
@@ -38,6 +42,21 @@ module _ (t : ℕ → Bool) where
       go : (b : Bool) → any t (from 0 n) ≡ b → b ≡ false
       go true q = let r = some_seen n q in absurd (not_both r.2 (h r.0 r.1))
       go false q = refl
+
+  -- what a chain's `all` over the range answers, of a test that fails
+  pub none_in_range : (n : ℕ) (r : Bool)
+      → MatchBool r (AllWithin (λ k. t k ≡ false) (range_with_len 0 n) 0 (length (range_with_len 0 n)))
+      ((k : ℕ) × (k < length (range_with_len 0 n)) × HoldsAt (λ k. t k ≡ true) (range_with_len 0 n) k)
+      → r ≡ not (any t (from 0 n))
+  none_in_range n true h =
+      ap not (sym (none_seen n (λ k b. sym (at k b) ∙ h k 0 (omega arith) (omega (arith, length-range_with_len 0 n)))))
+    where
+      at : (k : ℕ) → k < n → t (get_or (range_with_len 0 n) k 0) ≡ t k
+      at k b = let z : 0 + k ≡ k = omega arith in ap t (get_or-range_with_len 0 n k 0 b ∙ z)
+  none_in_range n false h =
+      let b : h.0 < n = omega (arith, h.1, length-range_with_len 0 n) in
+      let z : 0 + h.0 ≡ h.0 = omega arith in
+      ap not (sym (seen n h.0 b (ap t (sym z ∙ sym (get_or-range_with_len 0 n h.0 0 b)) ∙ h.2 0)))
 
 -- what holds from k on and of the number before k holds from that number on
 pub above_more : (P : ℕ → Type 0) (k : ℕ) → 0 < k → ((j : ℕ) → k ≤ j → P j) → P (k - 1) → (j : ℕ) → k - 1 ≤ j → P j

@@ -21,12 +21,7 @@ fn all_zero(bytes: &[u8], first: usize, step: usize, count: usize) -> bool
     requires { HasRun bytes.now first step count }
     ensures { result ≡ not (any_set bytes.now first step count) }
 {
-    for k in 0..count {
-        if bytes[first + k * step] != 0 {
-            return false;
-        }
-    }
-    true
+    (0..count).all(|k| bytes[first + k * step] == 0)
 }
 
 pub fn is_column_transparent(stores: Stores<'_>, image: Image, col: u32) -> bool

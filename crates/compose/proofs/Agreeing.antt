@@ -7,6 +7,7 @@ use mathlib.Core.List.{List}
 use lib.ListN.{length}
 use lib.Dec.{ltb}
 use borrow.Author.Tests.{ltb-true, ltb-false, eqb-true, eq-eqb, not-false}
+use Rattle.std.specs.Prelude.{Option as Maybe, Some, None}
 use Rattle.geometry.proofs.Words.{not_both}
 use Rattle.art.specs.Trimming.{first_seen}
 use Rattle.art.specs.declared.memory_rgba8_texture.Pixel.{Pixel}
@@ -14,7 +15,6 @@ use Rattle.art.proofs.Seen.{first-is, first-none, first_below, first-le}
 use Rattle.records.proofs.Rows.{all_of_lem, of_all}
 use Rattle.paint.specs.Painting.{pixel_no, Shows}
 use Rattle.compose.specs.Checking.{same_pixel, differs, column_off, row_off, compared}
-use Rattle.compose.specs.declared.checking.Checked.TheVariants.{Same, Differs}
 use Rattle.compose.proofs.Comparing.{all_same, first-differs}
 
 -- ## one pixel
@@ -64,19 +64,19 @@ module _ (f : ℕ → ℕ → Pixel) (w first n : ℕ) (shown : List ℕ) where
   rows_all h v p = ltb-false _ _ (none_before (λ (k : ℕ). ltb (column_off f w first n shown k) w) n v p (omega arith))
 
   -- the comparison says same, or the first difference
-  said : compared f w first n shown ≡ Same → n ≤ row_off f w first n shown
+  said : compared f w first n shown ≡ None → n ≤ row_off f w first n shown
   unfolding compared
   said e = go (ltb (row_off f w first n shown) n) refl e
     where
       go : (b : Bool) → ltb (row_off f w first n shown) n ≡ b
-          → cond b (Differs (column_off f w first n shown (row_off f w first n shown)) (first + row_off f w first n shown)) Same ≡ Same → n ≤ row_off f w first n shown
+          → cond {A = Maybe (ℕ × ℕ)} b (Some (column_off f w first n shown (row_off f w first n shown), first + row_off f w first n shown)) None ≡ None → n ≤ row_off f w first n shown
       go true q z = let k : ◌≡◌ {A = ℕ} 0 1 = cc in absurd (omega arith)
       go false q z = ltb-false _ _ q
 
-  pub same_shows : length shown ≡ 4 * (w * n) → compared f w first n shown ≡ Same → Shows f w first n shown
+  pub same_shows : length shown ≡ 4 * (w * n) → compared f w first n shown ≡ None → Shows f w first n shown
   same_shows long e = record { long = long; each = λ x v p q. column-all v (rows_all (said e) v q) x p }
 
-  pub shows_same : Shows f w first n shown → compared f w first n shown ≡ Same
+  pub shows_same : Shows f w first n shown → compared f w first n shown ≡ None
   unfolding column_off
   shows_same s = all_same f w first n shown n (omega arith) (λ v p. full v p)
     where
@@ -112,22 +112,23 @@ module _ (f : ℕ → ℕ → Pixel) (w first n : ℕ) (shown : List ℕ) where
         earlier_columns = λ k p. agrees f shown (v * w) (first + v) k (c.before k p);
       }
 
-  pub differs-off : (x y : ℕ) → compared f w first n shown ≡ Differs x y → FirstOff x y
+  pub differs-off : (x y : ℕ) → compared f w first n shown ≡ Some (x, y) → FirstOff x y
   unfolding compared
   differs-off x y e = go (ltb (row_off f w first n shown) n) refl e
     where
       go : (b : Bool) → ltb (row_off f w first n shown) n ≡ b
-          → cond b (Differs (column_off f w first n shown (row_off f w first n shown)) (first + row_off f w first n shown)) Same ≡ Differs x y → FirstOff x y
+          → cond {A = Maybe (ℕ × ℕ)} b (Some (column_off f w first n shown (row_off f w first n shown), first + row_off f w first n shown)) None ≡ Some (x, y) → FirstOff x y
       go true q z =
-          let p : column_off f w first n shown (row_off f w first n shown) ≡ x = cc in
-          let r : first + row_off f w first n shown ≡ y = cc in
+          let o : ◌≡◌ {A = ℕ × ℕ} (column_off f w first n shown (row_off f w first n shown), first + row_off f w first n shown) (x, y) = cc in
+          let p : column_off f w first n shown (row_off f w first n shown) ≡ x = ap (λ (k : ℕ × ℕ). k.0) o in
+          let r : first + row_off f w first n shown ≡ y = ap (λ (k : ℕ × ℕ). k.1) o in
           subst (λ (k : ℕ). FirstOff k y) p (subst (λ (k : ℕ). FirstOff (column_off f w first n shown (row_off f w first n shown)) k) r (found-off (ltb-true _ _ q)))
       go false q z = let k : ◌≡◌ {A = ℕ} 0 1 = cc in absurd (omega arith)
 
-  pub off-differs : (x y : ℕ) → FirstOff x y → compared f w first n shown ≡ Differs x y
+  pub off-differs : (x y : ℕ) → FirstOff x y → compared f w first n shown ≡ Some (x, y)
   unfolding column_off
   off-differs x y o =
-      first-differs f w first n shown o.row x o.within (λ v p. full v p) here o.column ∙ ap (Differs x) (sym o.page-row)
+      first-differs f w first n shown o.row x o.within (λ v p. full v p) here o.column ∙ ap (λ (j : ℕ). Some (x, j)) (sym o.page-row)
     where
       full : (v : ℕ) → v < o.row → column_off f w first n shown v ≡ w
       full v p = first-none (differs f shown (v * w) (first + v)) w (λ k q. agreed f shown (v * w) (first + v) k (o.earlier_rows k v p q))

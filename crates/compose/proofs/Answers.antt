@@ -3,16 +3,16 @@ use Prim.Native.Nat.{ℕ, ◌+◌, ◌*◌, ◌≤◌, ◌<◌}
 use native.Mathlib.Omega.{arith}
 use mathlib.Core.Path.{◌≡◌, refl, sym, ap, ◌∙◌}
 use mathlib.Core.Logic.{◌↔◌}
-use mathlib.Core.Bool.{Bool, true, false, cond}
+use mathlib.Core.Bool.{true, false}
 use mathlib.Core.List.{List, [], ◌∷◌}
 use mathlib.Core.Option.{Option, none, some}
 use lib.ListN.{length}
 use lib.Dec.{ltb, eqb}
 use borrow.Author.Tests.{le-leb, lt-leb, ltb-false, eqb-true, eqb-false, not-false}
+use Rattle.std.specs.Prelude.{⊤, Option as Maybe, Some, None, Result, Ok, Err}
 use Rattle.geometry.proofs.Words.{or_no_left, or_no_right}
 use Rattle.geometry.specs.declared.rect.Size.{Size}
 use Rattle.art.specs.Stores.{Stores}
-use Rattle.art.specs.declared.memory_rgba8_texture.Pixel.{Pixel}
 use Rattle.records.specs.Refusals.{number_of, first_refusal}
 use Rattle.records.specs.Layouts.{standing, well_formed, page_count, size_of_page}
 use Rattle.records.specs.Operations.{no_such_page}
@@ -24,13 +24,9 @@ use Rattle.records.proofs.Rows.{passed, First, first-is, Nones}
 use Rattle.rules.proofs.Rows.{test_at, refusal_at, Passed, Once, exactly_at, holds-none}
 use Rattle.lookup.specs.Looking.{page_past}
 use Rattle.paint.specs.Pictures.{picture, composed_at, band}
-use Rattle.paint.specs.declared.background.Background.{Background}
+use Rattle.paint.specs.Backgrounds.{Background}
 use Rattle.compose.specs.Composing.{empty_page, bad_rows, bad_length, band_row, band_refusal, compose_answer, compose_buffer, composed_answer, composed_buffer, composed_numbers}
-use Rattle.compose.specs.Checking.{column_off, row_off, compared, check_answer, checked_rows, checked_numbers}
-use Rattle.compose.specs.declared.checking.Checked.{Checked}
-use Rattle.compose.specs.declared.checking.Checked.TheVariants.{Same, Differs, Refused as CheckRefused}
-use Rattle.compose.specs.declared.image_exporter.Composed.{Composed}
-use Rattle.compose.specs.declared.image_exporter.Composed.TheVariants.{Done, Refused}
+use Rattle.compose.specs.Checking.{compared, check_answer, checked_rows, checked_numbers}
 
 -- 11, as the code asks it
 pub no_page : (l : Layout) (p : Page) (n : ℕ) → n ≡ page_count (standing l) → n ≤ p.0 → no_such_page l p ≡ true
@@ -41,20 +37,20 @@ pub a_page : (l : Layout) (p : Page) (n : ℕ) → n ≡ page_count (standing l)
 unfolding no_such_page
 a_page l p n e h = lt-leb (page_count (standing l)) p.0 (omega arith)
 
-pub done_none : (o : Option Refusal) → compose_answer o ≡ Done → o ≡ none
+pub done_none : (o : Option Refusal) → compose_answer o ≡ Ok tt → o ≡ none
 done_none none e = refl
 done_none (some r) e = let z : ◌≡◌ {A = ℕ} 0 1 = cc in absurd (omega arith)
 
-pub refused-some : (o : Option Refusal) (r : Refusal) → compose_answer o ≡ Refused r → o ≡ some r
+pub refused-some : (o : Option Refusal) (r : Refusal) → compose_answer o ≡ Err r → o ≡ some r
 refused-some none r e = let z : ◌≡◌ {A = ℕ} 0 1 = cc in absurd (omega arith)
 refused-some (some q) r e = let z : q ≡ r = cc in ap some z
 
 module _ (l : Layout) (s : Stores) (p : Page) (first n len : ℕ) where
-  pub band_refuses : {r : Refusal} → First (band_row l s p first n len) r → Refused r ≡ compose_answer (band_refusal l s p first n len)
+  pub band_refuses : {r : Refusal} → First (band_row l s p first n len) r → Err r ≡ compose_answer (band_refusal l s p first n len)
   unfolding band_refusal
   band_refuses h = sym (ap compose_answer (first-is _ h))
 
-  pub band-passes : Nones (band_row l s p first n len) → Done ≡ compose_answer (band_refusal l s p first n len)
+  pub band-passes : Nones (band_row l s p first n len) → Ok tt ≡ compose_answer (band_refusal l s p first n len)
   unfolding band_refusal
   band-passes h = sym (ap compose_answer (holds-none _ h))
 
@@ -93,12 +89,12 @@ module _ (l : Layout) (s : Stores) (p : Page) (first n len : ℕ) where
       some_of : (k : ℕ) → (k ≡ 0 → ⊥) → 1 ≤ k
       some_of k h = omega arith
 
-  pub done_unrefused : compose_answer (band_refusal l s p first n len) ≡ Done → Unrefused
+  pub done_unrefused : compose_answer (band_refusal l s p first n len) ≡ Ok tt → Unrefused
   done_unrefused e = none_refuses (done_none _ e)
 
 -- the operation's answer and buffer, once the row's answer is known
 module _ (l : Layout) (s : Stores) (p : Page) (g : Background) (first n : ℕ) (old : List ℕ) where
-  pub answer-is : {a : Composed} → a ≡ compose_answer (band_refusal l s p first n (length old)) → a ≡ composed_answer l s p first n old
+  pub answer-is : {a : Result ⊤ Refusal} → a ≡ compose_answer (band_refusal l s p first n (length old)) → a ≡ composed_answer l s p first n old
   unfolding composed_answer
   answer-is e = e
 
@@ -106,14 +102,14 @@ module _ (l : Layout) (s : Stores) (p : Page) (g : Background) (first n : ℕ) (
   unfolding composed_buffer
   kept_of_some r e = sym (ap (compose_buffer old (band l s p g first n)) e)
 
-  pub buffer_kept : {r : Refusal} → compose_answer (band_refusal l s p first n (length old)) ≡ Refused r → old ≡ composed_buffer l s p g first n old
+  pub buffer_kept : {r : Refusal} → compose_answer (band_refusal l s p first n (length old)) ≡ Err r → old ≡ composed_buffer l s p g first n old
   buffer_kept {r} e = kept_of_some r (refused-some (band_refusal l s p first n (length old)) r e)
 
   pub buffer_of_done : band_refusal l s p first n (length old) ≡ none → band l s p g first n ≡ composed_buffer l s p g first n old
   unfolding composed_buffer
   buffer_of_done e = sym (ap (compose_buffer old (band l s p g first n)) e)
 
-  pub buffer_composed : compose_answer (band_refusal l s p first n (length old)) ≡ Done → band l s p g first n ≡ composed_buffer l s p g first n old
+  pub buffer_composed : compose_answer (band_refusal l s p first n (length old)) ≡ Ok tt → band l s p g first n ≡ composed_buffer l s p g first n old
   buffer_composed e = buffer_of_done (done_none (band_refusal l s p first n (length old)) e)
 
 -- rows that 13 lets pass are no more than the page has
@@ -130,16 +126,16 @@ band-is l s p g first n z e = ap (λ (k : Size). picture (composed_at l s p g) k
 -- ## check rows
 
 module _ (l : Layout) (s : Stores) (p : Page) (g : Background) (first n : ℕ) (shown : List ℕ) where
-  pub check_refused : {r : Refusal} → compose_answer (band_refusal l s p first n (length shown)) ≡ Refused r → CheckRefused r ≡ checked_rows l s p g first n shown
+  pub check_refused : {r : Refusal} → compose_answer (band_refusal l s p first n (length shown)) ≡ Err r → Err r ≡ checked_rows l s p g first n shown
   unfolding checked_rows
   check_refused {r} e =
       sym (ap (check_answer (compared (composed_at l s p g) (size_of_page l p).w first n shown)) (refused-some (band_refusal l s p first n (length shown)) r e))
 
-  pub check_compared : (z : Size) → z ≡ size_of_page l p → compose_answer (band_refusal l s p first n (length shown)) ≡ Done
-      → compared (composed_at l s p g) z.w first n shown ≡ checked_rows l s p g first n shown
+  pub check_compared : (z : Size) → z ≡ size_of_page l p → compose_answer (band_refusal l s p first n (length shown)) ≡ Ok tt
+      → Ok (compared (composed_at l s p g) z.w first n shown) ≡ checked_rows l s p g first n shown
   unfolding checked_rows
   check_compared z q e =
-      ap (λ (k : Size). compared (composed_at l s p g) k.w first n shown) q
+      ap (λ (k : Size). Ok (compared (composed_at l s p g) k.w first n shown)) q
       ∙ sym (ap (check_answer (compared (composed_at l s p g) (size_of_page l p).w first n shown)) (done_none (band_refusal l s p first n (length shown)) e))
 
 -- ## the row itself
@@ -160,64 +156,54 @@ module _ (l : Layout) (s : Stores) (p : Page) (first n len : ℕ) where
 -- ## the answers, and what they say of the row
 
 module _ (l : Layout) (s : Stores) (p : Page) (first n : ℕ) (old : List ℕ) where
-  pub composed-refused : (r : Refusal) → composed_answer l s p first n old ≡ Refused r ↔ band_refusal l s p first n (length old) ≡ some r
+  pub composed-refused : (r : Refusal) → composed_answer l s p first n old ≡ Err r ↔ band_refusal l s p first n (length old) ≡ some r
   unfolding composed_answer
   composed-refused r = (λ e. refused-some (band_refusal l s p first n (length old)) r e, λ e. ap compose_answer e)
 
-  pub composed-done : composed_answer l s p first n old ≡ Done ↔ band_refusal l s p first n (length old) ≡ none
+  pub composed-done : composed_answer l s p first n old ≡ Ok tt ↔ band_refusal l s p first n (length old) ≡ none
   unfolding composed_answer
   composed-done = (λ e. done_none (band_refusal l s p first n (length old)) e, λ e. ap compose_answer e)
 
-module _ (f : ℕ → ℕ → Pixel) (w first n : ℕ) (shown : List ℕ) where
-  -- comparing never refuses
-  pub compared-answers : (r : Refusal) → compared f w first n shown ≡ CheckRefused r → ⊥
-  unfolding compared
-  compared-answers r e = go (ltb (row_off f w first n shown) n) e
-    where
-      go : (b : Bool) → cond b (Differs (column_off f w first n shown (row_off f w first n shown)) (first + row_off f w first n shown)) Same ≡ CheckRefused r → ⊥
-      go true q = let z : ◌≡◌ {A = ℕ} 0 1 = cc in absurd (omega arith)
-      go false q = let z : ◌≡◌ {A = ℕ} 0 1 = cc in absurd (omega arith)
-
 module _ (l : Layout) (s : Stores) (p : Page) (g : Background) (first n : ℕ) (shown : List ℕ) where
-  pub checked_refused : (r : Refusal) → checked_rows l s p g first n shown ≡ CheckRefused r ↔ band_refusal l s p first n (length shown) ≡ some r
+  pub checked_refused : (r : Refusal) → checked_rows l s p g first n shown ≡ Err r ↔ band_refusal l s p first n (length shown) ≡ some r
   unfolding checked_rows
   checked_refused r = (go (band_refusal l s p first n (length shown)), λ e. ap (check_answer (compared (composed_at l s p g) (size_of_page l p).w first n shown)) e)
     where
-      go : (o : Option Refusal) → check_answer (compared (composed_at l s p g) (size_of_page l p).w first n shown) o ≡ CheckRefused r → o ≡ some r
-      go none e = absurd (compared-answers (composed_at l s p g) (size_of_page l p).w first n shown r e)
+      go : (o : Option Refusal) → check_answer (compared (composed_at l s p g) (size_of_page l p).w first n shown) o ≡ Err r → o ≡ some r
+      go none e = let z : ◌≡◌ {A = ℕ} 0 1 = cc in absurd (omega arith)
       go (some q) e = let z : q ≡ r = cc in ap some z
 
   -- any other answer is the comparison's
-  pub checked_compared : {a : Checked} → checked_rows l s p g first n shown ≡ a → ((r : Refusal) → a ≡ CheckRefused r → ⊥)
-      → (band_refusal l s p first n (length shown) ≡ none) × (compared (composed_at l s p g) (size_of_page l p).w first n shown ≡ a)
+  pub checked_compared : {k : Maybe (ℕ × ℕ)} → checked_rows l s p g first n shown ≡ Ok k
+      → (band_refusal l s p first n (length shown) ≡ none) × (compared (composed_at l s p g) (size_of_page l p).w first n shown ≡ k)
   unfolding checked_rows
-  checked_compared {a} e ne = go (band_refusal l s p first n (length shown)) e
+  checked_compared {k} e = go (band_refusal l s p first n (length shown)) e
     where
-      go : (o : Option Refusal) → check_answer (compared (composed_at l s p g) (size_of_page l p).w first n shown) o ≡ a
-          → (o ≡ none) × (compared (composed_at l s p g) (size_of_page l p).w first n shown ≡ a)
-      go none q = (refl, q)
-      go (some r) q = absurd (ne r (sym q))
+      go : (o : Option Refusal) → check_answer (compared (composed_at l s p g) (size_of_page l p).w first n shown) o ≡ Ok k
+          → (o ≡ none) × (compared (composed_at l s p g) (size_of_page l p).w first n shown ≡ k)
+      go none q = let z : compared (composed_at l s p g) (size_of_page l p).w first n shown ≡ k = cc in (refl, z)
+      go (some r) q = let z : ◌≡◌ {A = ℕ} 0 1 = cc in absurd (omega arith)
 
-  pub compared_checked : {a : Checked} → band_refusal l s p first n (length shown) ≡ none
-      → compared (composed_at l s p g) (size_of_page l p).w first n shown ≡ a → checked_rows l s p g first n shown ≡ a
+  pub compared_checked : {k : Maybe (ℕ × ℕ)} → band_refusal l s p first n (length shown) ≡ none
+      → compared (composed_at l s p g) (size_of_page l p).w first n shown ≡ k → checked_rows l s p g first n shown ≡ Ok k
   unfolding checked_rows
-  compared_checked e q = ap (check_answer (compared (composed_at l s p g) (size_of_page l p).w first n shown)) e ∙ q
+  compared_checked e q = ap (check_answer (compared (composed_at l s p g) (size_of_page l p).w first n shown)) e ∙ ap Ok q
 
 -- ## numbers and values, one to one
 
-pub composed_tells : (a b : Composed) → composed_numbers a ≡ composed_numbers b → a ≡ b
-composed_tells Done Done e = refl
-composed_tells Done (Refused r) e = let z : 0 ≡ number_of r = cc in absurd (number-some r (sym z))
-composed_tells (Refused r) Done e = let z : number_of r ≡ 0 = cc in absurd (number-some r z)
-composed_tells (Refused r) (Refused q) e = let z : number_of r ≡ number_of q = cc in ap Refused (number_tells r q z)
+pub composed_tells : (a b : Result ⊤ Refusal) → composed_numbers a ≡ composed_numbers b → a ≡ b
+composed_tells (Ok a) (Ok b) e = refl
+composed_tells (Ok done) (Err r) e = let z : 0 ≡ number_of r = cc in absurd (number-some r (sym z))
+composed_tells (Err r) (Ok done) e = let z : number_of r ≡ 0 = cc in absurd (number-some r z)
+composed_tells (Err r) (Err q) e = let z : number_of r ≡ number_of q = cc in ap Err (number_tells r q z)
 
-pub checked_tells : (a b : Checked) → checked_numbers a ≡ checked_numbers b → a ≡ b
-checked_tells Same Same e = refl
-checked_tells Same (Differs x y) e = let z : ◌≡◌ {A = List ℕ} [] (x ∷ y ∷ []) = cc in let k : ◌≡◌ {A = ℕ} 0 2 = ap length z in absurd (omega arith)
-checked_tells Same (CheckRefused r) e = let z : 0 ≡ number_of r = cc in absurd (number-some r (sym z))
-checked_tells (Differs x y) Same e = let z : ◌≡◌ {A = List ℕ} (x ∷ y ∷ []) [] = cc in let k : ◌≡◌ {A = ℕ} 2 0 = ap length z in absurd (omega arith)
-checked_tells (Differs x y) (Differs u v) e = let p : x ≡ u = cc in let q : y ≡ v = cc in λ i. Differs (p i) (q i)
-checked_tells (Differs x y) (CheckRefused r) e = let z : 0 ≡ number_of r = cc in absurd (number-some r (sym z))
-checked_tells (CheckRefused r) Same e = let z : number_of r ≡ 0 = cc in absurd (number-some r z)
-checked_tells (CheckRefused r) (Differs x y) e = let z : number_of r ≡ 0 = cc in absurd (number-some r z)
-checked_tells (CheckRefused r) (CheckRefused q) e = let z : number_of r ≡ number_of q = cc in ap CheckRefused (number_tells r q z)
+pub checked_tells : (a b : Result (Maybe (ℕ × ℕ)) Refusal) → checked_numbers a ≡ checked_numbers b → a ≡ b
+checked_tells (Ok None) (Ok None) e = refl
+checked_tells (Ok None) (Ok (Some (x, y))) e = let z : ◌≡◌ {A = List ℕ} [] (x ∷ y ∷ []) = cc in let k : ◌≡◌ {A = ℕ} 0 2 = ap length z in absurd (omega arith)
+checked_tells (Ok None) (Err r) e = let z : 0 ≡ number_of r = cc in absurd (number-some r (sym z))
+checked_tells (Ok (Some (x, y))) (Ok None) e = let z : ◌≡◌ {A = List ℕ} (x ∷ y ∷ []) [] = cc in let k : ◌≡◌ {A = ℕ} 2 0 = ap length z in absurd (omega arith)
+checked_tells (Ok (Some (x, y))) (Ok (Some (u, v))) e = let p : x ≡ u = cc in let q : y ≡ v = cc in λ i. Ok (Some (p i, q i))
+checked_tells (Ok (Some (x, y))) (Err r) e = let z : 0 ≡ number_of r = cc in absurd (number-some r (sym z))
+checked_tells (Err r) (Ok None) e = let z : number_of r ≡ 0 = cc in absurd (number-some r z)
+checked_tells (Err r) (Ok (Some (x, y))) e = let z : number_of r ≡ 0 = cc in absurd (number-some r z)
+checked_tells (Err r) (Err q) e = let z : number_of r ≡ number_of q = cc in ap Err (number_tells r q z)

@@ -10,7 +10,7 @@ use lib.Dec.{ltb}
 use lib.ListN.{get_or, take, drop}
 use lib.Seq.{get_or-take, get_or-drop}
 use borrow.Author.Tests.{ltb-true, ltb-false, lt-ltb, le-ltb}
-use Rattle.geometry.proofs.Words.{not_both}
+use Rattle.std.specs.Prelude.{Some, None}
 use Rattle.art.specs.Trimming.{first_seen}
 use Rattle.art.specs.Stores.{pixel_from}
 use Rattle.art.specs.declared.memory_rgba8_texture.Pixel.{Pixel}
@@ -18,8 +18,7 @@ use Rattle.art.proofs.Seen.{first-is, first-none, first-few, first-le, first_bel
 use Rattle.paint.specs.Painting.{Shows}
 use Rattle.paint.proofs.Frames.{row_ends}
 use Rattle.compose.specs.Checking.{same_pixel, differs, column_off, row_off, compared}
-use Rattle.compose.specs.Comparing.{off_at, is_same}
-use Rattle.compose.specs.declared.checking.Checked.TheVariants.{Same, Differs}
+use Rattle.compose.specs.Comparing.{off_at}
 
 -- ## wanted rows that show the picture
 
@@ -40,7 +39,7 @@ module _ (f : ℕ → ℕ → Pixel) (w first n : ℕ) (shown : List ℕ) where
   not_less k e = ap (λ (j : ℕ). ltb j w) e ∙ le-ltb w w (omega arith)
 
   -- none does
-  pub all_same : (v : ℕ) → n ≤ v → SameBefore v → compared f w first n shown ≡ Same
+  pub all_same : (v : ℕ) → n ≤ v → SameBefore v → compared f w first n shown ≡ None
   unfolding compared row_off
   all_same v h s =
       let e : first_seen (λ k. ltb (column_off f w first n shown k) w) n ≡ n =
@@ -48,7 +47,7 @@ module _ (f : ℕ → ℕ → Pixel) (w first n : ℕ) (shown : List ℕ) where
       rw (e, le-ltb n n (omega arith)) refl
 
   -- this one does, first in column x
-  pub first-differs : (v x : ℕ) → v < n → SameBefore v → column_off f w first n shown v ≡ x → x < w → compared f w first n shown ≡ Differs x (first + v)
+  pub first-differs : (v x : ℕ) → v < n → SameBefore v → column_off f w first n shown v ≡ x → x < w → compared f w first n shown ≡ Some (x, first + v)
   unfolding compared row_off
   first-differs v x h s at below =
       let e : first_seen (λ k. ltb (column_off f w first n shown k) w) n ≡ v =
@@ -57,7 +56,7 @@ module _ (f : ℕ → ℕ → Pixel) (w first n : ℕ) (shown : List ℕ) where
         passes = ap (λ (j : ℕ). ltb j w) at ∙ lt-ltb x w below;
         before = λ k p. not_less k (s k p);
       }) in
-      rw (e, lt-ltb v n h) (ap (λ (k : ℕ). Differs k (first + v)) at)
+      rw (e, lt-ltb v n h) (ap (λ (k : ℕ). Some (k, first + v)) at)
 
   pub column-is : (v x : ℕ) → x ≡ first_seen (differs f shown (v * w) (first + v)) w → column_off f w first n shown v ≡ x
   unfolding column_off
@@ -113,12 +112,12 @@ module _ (f : ℕ → ℕ → Pixel) (w first n : ℕ) (shown : List ℕ) (v k :
           ap (column_off f w first n shown) (sym e) ∙ sym (column-part i (omega arith)) ∙ full
 
   told : (b : Bool) → ltb (first_seen passes k) k ≡ b
-      → compared f w (first + v) k part ≡ cond b (Differs (column_off f w (first + v) k part (first_seen passes k)) (first + v + first_seen passes k)) Same
+      → compared f w (first + v) k part ≡ cond b (Some (column_off f w (first + v) k part (first_seen passes k), first + v + first_seen passes k)) None
   unfolding compared row_off
-  told b e = ap (λ (b : Bool). cond b (Differs (column_off f w (first + v) k part (first_seen passes k)) (first + v + first_seen passes k)) Same) e
+  told b e = ap (λ (b : Bool). cond b (Some (column_off f w (first + v) k part (first_seen passes k), first + v + first_seen passes k)) None) e
 
   -- no row of the part differs
-  pub part_same : SameBefore f w first n shown v → is_same (compared f w (first + v) k part) ≡ true → SameBefore f w first n shown (v + k)
+  pub part_same : SameBefore f w first n shown v → compared f w (first + v) k part ≡ None → SameBefore f w first n shown (v + k)
   part_same s e = on k (omega arith) s (λ j h. go j h (passes j) refl)
     where
       past : k ≤ first_seen passes k
@@ -126,24 +125,25 @@ module _ (f : ℕ → ℕ → Pixel) (w first n : ℕ) (shown : List ℕ) (v k :
         where
           go : (b : Bool) → ltb (first_seen passes k) k ≡ b → b ≡ false
           go false q = refl
-          go true q = absurd (not_both e (ap is_same (told true q)))
+          go true q = let o = sym (told true q) ∙ e in let z : ◌≡◌ {A = ℕ} 0 1 = cc in absurd (omega arith)
 
       go : (j : ℕ) → j < k → (b : Bool) → passes j ≡ b → b ≡ false
       go j h false q = refl
       go j h true q = let l = first-le passes k j h q in let p = past in absurd (omega arith)
 
   -- one does
-  pub part-differs : SameBefore f w first n shown v → v + k ≤ n → is_same (compared f w (first + v) k part) ≡ false
-      → compared f w first n shown ≡ compared f w (first + v) k part
-  part-differs s h e = go (ltb (first_seen passes k) k) refl
+  pub part-differs : {off : ℕ × ℕ} → SameBefore f w first n shown v → v + k ≤ n → compared f w (first + v) k part ≡ Some off
+      → compared f w first n shown ≡ Some off
+  part-differs {off} s h e = go (ltb (first_seen passes k) k) refl
     where
-      go : (b : Bool) → ltb (first_seen passes k) k ≡ b → compared f w first n shown ≡ compared f w (first + v) k part
-      go false q = absurd (not_both (ap is_same (told false q)) e)
+      go : (b : Bool) → ltb (first_seen passes k) k ≡ b → compared f w first n shown ≡ Some off
+      go false q = let o = sym (told false q) ∙ e in let z : ◌≡◌ {A = ℕ} 0 1 = cc in absurd (omega arith)
       go true q =
           let below = ltb-true _ _ q in
           let r = first_seen passes k in
           let is = first_below passes k below in
           let y : first + v + r ≡ first + (v + r) = add_assoc first v r in
           first-differs f w first n shown (v + r) (column_off f w (first + v) k part r) (omega arith) (on r (omega arith) s is.before) (sym (column-part r below)) (ltb-true _ _ is.passes)
-          ∙ ap (Differs (column_off f w (first + v) k part r)) (sym y)
+          ∙ ap (λ (j : ℕ). Some (column_off f w (first + v) k part r, j)) (sym y)
           ∙ sym (told true q)
+          ∙ e

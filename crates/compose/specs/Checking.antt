@@ -1,6 +1,6 @@
 -- Check rows: the lent rows against what composing gives.
 -- Assumes nothing.
-use Rattle.std.specs.Prelude.{ℕ, ◌+◌, ◌*◌, Bool, cond, not, List, [], ◌∷◌, length, ltb, eqb}
+use Rattle.std.specs.Prelude.{ℕ, ◌+◌, ◌*◌, Bool, cond, not, Option as Maybe, Some, None, Result, Ok, Err, List, [], ◌∷◌, length, ltb, eqb}
 use Rattle.std.proofs.Math.Option.{Option, none, some}
 use Rattle.geometry.specs.Words.{all_of}
 use Rattle.art.specs.Stores.{Stores, pixel_from}
@@ -12,10 +12,8 @@ use Rattle.records.specs.declared.frame.Page.{Page}
 use Rattle.records.specs.declared.layout.Layout.{Layout}
 use Rattle.records.specs.declared.refusal.Refusal.{Refusal}
 use Rattle.paint.specs.Pictures.{composed_at}
-use Rattle.paint.specs.declared.background.Background.{Background}
+use Rattle.paint.specs.Backgrounds.{Background}
 use Rattle.compose.specs.Composing.{band_refusal}
-use Rattle.compose.specs.declared.checking.Checked.{Checked}
-use Rattle.compose.specs.declared.checking.Checked.TheVariants.{Same, Differs, Refused}
 
 -- each byte agrees
 unfoldable pub same_pixel : Pixel → Pixel → Bool
@@ -36,20 +34,20 @@ module _ (f : ℕ → ℕ → Pixel) (w first n : ℕ) (lent : List ℕ) where
   row_off = first_seen (λ v. ltb (column_off v) w) n
 
   -- same, or the first differing pixel in row order, given as page column and page row
-  unfoldable pub compared : Checked
-  compared = cond (ltb row_off n) (Differs (column_off row_off) (first + row_off)) Same
+  unfoldable pub compared : Maybe (ℕ × ℕ)
+  compared = cond (ltb row_off n) (Some (column_off row_off, first + row_off)) None
 
 -- ## check rows: 2 11 12 13 14 5
 
-abbrev pub check_answer : Checked → Option Refusal → Checked
-check_answer k none = k
-check_answer k (some r) = Refused r
+abbrev pub check_answer : Maybe (ℕ × ℕ) → Option Refusal → Result (Maybe (ℕ × ℕ)) Refusal
+check_answer k none = Ok k
+check_answer k (some r) = Err r
 
-unfoldable pub checked_rows : Layout → Stores → Page → Background → ℕ → ℕ → List ℕ → Checked
+unfoldable pub checked_rows : Layout → Stores → Page → Background → ℕ → ℕ → List ℕ → Result (Maybe (ℕ × ℕ)) Refusal
 checked_rows l s p g first n lent =
     check_answer (compared (composed_at l s p g) (size_of_page l p).w first n lent) (band_refusal l s p first n (length lent))
 
-abbrev pub checked_numbers : Checked → List ℕ
-checked_numbers Same = 0 ∷ []
-checked_numbers (Differs x y) = 0 ∷ x ∷ y ∷ []
-checked_numbers (Refused r) = number_of r ∷ []
+abbrev pub checked_numbers : Result (Maybe (ℕ × ℕ)) Refusal → List ℕ
+checked_numbers (Ok None) = 0 ∷ []
+checked_numbers (Ok (Some off)) = 0 ∷ off.0 ∷ off.1 ∷ []
+checked_numbers (Err r) = number_of r ∷ []

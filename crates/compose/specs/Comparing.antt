@@ -1,16 +1,9 @@
 -- Words of the code that compares lent rows with the wanted ones.
 -- Assumes nothing.
-use Rattle.std.specs.Prelude.{ℕ, ◌+◌, ◌*◌, Bool, true, false, not, List}
+use Rattle.std.specs.Prelude.{ℕ, ◌+◌, ◌*◌, Bool, not, List}
 use Rattle.art.specs.Stores.{pixel_from}
 use Rattle.compose.specs.Checking.{same_pixel}
-use Rattle.compose.specs.declared.checking.Checked.{Checked}
-use Rattle.compose.specs.declared.checking.Checked.TheVariants.{Same, Differs, Refused}
 
 -- pixel number base + x of the lent bytes is not that of the wanted ones
 abbrev pub off_at : List ℕ → List ℕ → ℕ → ℕ → Bool
 off_at lent wanted base x = not (same_pixel (pixel_from lent (4 * (base + x))) (pixel_from wanted (4 * (base + x))))
-
-abbrev pub is_same : Checked → Bool
-is_same Same = true
-is_same (Differs x y) = false
-is_same (Refused r) = false

@@ -1,6 +1,6 @@
 -- Compose rows: its row of checks, left to right, the answer and the buffer, and the answer's numbers.
 -- Assumes nothing.
-use Rattle.std.specs.Prelude.{ℕ, ◌+◌, ◌*◌, Bool, not, ◌||◌, List, [], ◌∷◌, length, ltb, eqb}
+use Rattle.std.specs.Prelude.{ℕ, ◌+◌, ◌*◌, ⊤, Bool, not, ◌||◌, Result, Ok, Err, List, [], ◌∷◌, length, ltb, eqb}
 use Rattle.std.proofs.Math.Option.{Option, none, some}
 use Rattle.geometry.specs.declared.rect.Size.{Size}
 use Rattle.art.specs.Stores.{Stores}
@@ -13,9 +13,7 @@ use Rattle.records.specs.declared.refusal.Refusal.{Refusal}
 use Rattle.records.specs.declared.refusal.Refusal.TheVariants.{NotWellFormed, NoSuchPage, EmptyPage, BadRows, BadLength, PastStore}
 use Rattle.lookup.specs.Looking.{page_past}
 use Rattle.paint.specs.Pictures.{band}
-use Rattle.paint.specs.declared.background.Background.{Background}
-use Rattle.compose.specs.declared.image_exporter.Composed.{Composed}
-use Rattle.compose.specs.declared.image_exporter.Composed.TheVariants.{Done, Refused}
+use Rattle.paint.specs.Backgrounds.{Background}
 
 -- ## compose rows, check rows: 2 11 12 13 14 5
 
@@ -46,21 +44,21 @@ band_refusal l s p first n len = first_refusal (band_row l s p first n len)
 
 -- ## compose rows
 
-abbrev pub compose_answer : Option Refusal → Composed
-compose_answer none = Done
-compose_answer (some r) = Refused r
+abbrev pub compose_answer : Option Refusal → Result ⊤ Refusal
+compose_answer none = Ok tt
+compose_answer (some r) = Err r
 
 -- what the lent buffer then holds: a refusal leaves it untouched
 abbrev pub compose_buffer : List ℕ → List ℕ → Option Refusal → List ℕ
 compose_buffer old new none = new
 compose_buffer old new (some r) = old
 
-unfoldable pub composed_answer : Layout → Stores → Page → ℕ → ℕ → List ℕ → Composed
+unfoldable pub composed_answer : Layout → Stores → Page → ℕ → ℕ → List ℕ → Result ⊤ Refusal
 composed_answer l s p first n buffer = compose_answer (band_refusal l s p first n (length buffer))
 
 unfoldable pub composed_buffer : Layout → Stores → Page → Background → ℕ → ℕ → List ℕ → List ℕ
 composed_buffer l s p g first n buffer = compose_buffer buffer (band l s p g first n) (band_refusal l s p first n (length buffer))
 
-abbrev pub composed_numbers : Composed → List ℕ
-composed_numbers Done = 0 ∷ []
-composed_numbers (Refused r) = number_of r ∷ []
+abbrev pub composed_numbers : Result ⊤ Refusal → List ℕ
+composed_numbers (Ok done) = 0 ∷ []
+composed_numbers (Err r) = number_of r ∷ []

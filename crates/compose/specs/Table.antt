@@ -1,15 +1,14 @@
 -- Lines of our own against wrong readings of compose rows and check rows: beside each list of computed answers and buffers stands what they
 -- must be. Examples 7 and 9 of document 01 stand elsewhere. `limits` and `settings` give maximum width and height, p, b, e, pages, images.
 -- Assumes nothing.
-use Rattle.std.specs.Prelude.{ℕ, Bool, true, false, List, [], ◌∷◌, ◌++◌}
-use Rattle.art.specs.Stores.{lent}
+use Rattle.std.specs.Prelude.{ℕ, Bool, true, false, None, List, [], ◌∷◌, ◌++◌}
+use Rattle.art.specs.Stores.{holding}
 use Rattle.art.specs.declared.memory_rgba8_texture.Store.TheVariants.{Symbols}
 use Rattle.records.specs.Samples.{settings, limits}
 use Rattle.records.specs.declared.layout.Layout.{Layout}
 use Rattle.lookup.specs.TableWords.{Line, counting, standing_in, whole}
 use Rattle.lookup.specs.Table.{trimmed, turned_art, upright_art, framed, extruded, shared, left, right, empty_first}
-use Rattle.paint.specs.declared.background.Background.{Background}
-use Rattle.paint.specs.declared.background.Background.TheVariants.{Clear}
+use Rattle.paint.specs.Backgrounds.{Background}
 use Rattle.compose.specs.TableWords.{plain, plain_discarding, at_most, at_most_discarding, counted, opaque, ground_bytes, clear, red_bytes, composing, done, asking, refused_both}
 use Rattle.compose.specs.TableChecks.{holed, order_lines, check_lines}
 
@@ -24,11 +23,11 @@ unfoldable pub pair : Layout
 pair = standing_in (limits 16 16 0 0 0 1 1) (whole 1 0 0 0 2 1 Symbols 0 ∷ [])
 
 unfoldable pub pair_row : Background → List (List ℕ)
-pair_row g = composing pair (lent (5 ∷ 6 ∷ 7 ∷ 0 ∷ 1 ∷ 2 ∷ 3 ∷ 255 ∷ []) []) 0 g 0 1 8
+pair_row g = composing pair (holding (5 ∷ 6 ∷ 7 ∷ 0 ∷ 1 ∷ 2 ∷ 3 ∷ 255 ∷ []) []) 0 g 0 1 8
 
 unfoldable pub background_lines : List Line
 background_lines =
-    (holed_rows Clear, done (counted 8 ∷ counted 12 ∷ clear ∷ clear ∷ clear ∷ counted 16 ∷ []))
+    (holed_rows None, done (counted 8 ∷ counted 12 ∷ clear ∷ clear ∷ clear ∷ counted 16 ∷ []))
     ∷ (holed_rows plain, done (counted 8 ∷ counted 12 ∷ ground_bytes ∷ ground_bytes ∷ ground_bytes ∷ counted 16 ∷ []))
     -- without a threshold the discard switch does nothing
     ∷ (holed_rows plain_discarding, done (counted 8 ∷ counted 12 ∷ ground_bytes ∷ ground_bytes ∷ ground_bytes ∷ counted 16 ∷ []))
@@ -39,12 +38,12 @@ background_lines =
     ∷ (holed_rows (at_most_discarding 15), done (ground_bytes ∷ ground_bytes ∷ ground_bytes ∷ ground_bytes ∷ ground_bytes ∷ opaque 16 ∷ []))
     -- all rows, and the last alone
     ∷ (
-      composing holed (counting 20 0) 0 Clear 0 3 36,
+      composing holed (counting 20 0) 0 None 0 3 36,
       done (counted 0 ∷ counted 4 ∷ clear ∷ counted 8 ∷ counted 12 ∷ clear ∷ clear ∷ clear ∷ counted 16 ∷ []),
     )
     ∷ (composing holed (counting 20 0) 0 plain 2 1 12, done (ground_bytes ∷ ground_bytes ∷ counted 16 ∷ []))
     -- alpha 0 is a pixel too: only a threshold takes it away
-    ∷ (pair_row Clear, done ((5 ∷ 6 ∷ 7 ∷ 0 ∷ []) ∷ opaque 1 ∷ []))
+    ∷ (pair_row None, done ((5 ∷ 6 ∷ 7 ∷ 0 ∷ []) ∷ opaque 1 ∷ []))
     ∷ (pair_row plain_discarding, done ((5 ∷ 6 ∷ 7 ∷ 0 ∷ []) ∷ opaque 1 ∷ []))
     ∷ (pair_row (at_most 0), done (ground_bytes ∷ opaque 1 ∷ []))
     ∷ (pair_row (at_most 254), done (ground_bytes ∷ opaque 1 ∷ []))
@@ -63,8 +62,8 @@ oblong_row y =
 
 unfoldable pub outline_lines : List Line
 outline_lines =
-    (framed_row true Clear 0, done (counted 0 ∷ red_bytes ∷ counted 4 ∷ red_bytes ∷ counted 8 ∷ []))
-    ∷ (framed_row true Clear 1, done (red_bytes ∷ red_bytes ∷ red_bytes ∷ red_bytes ∷ red_bytes ∷ []))
+    (framed_row true None 0, done (counted 0 ∷ red_bytes ∷ counted 4 ∷ red_bytes ∷ counted 8 ∷ []))
+    ∷ (framed_row true None 1, done (red_bytes ∷ red_bytes ∷ red_bytes ∷ red_bytes ∷ red_bytes ∷ []))
     -- a threshold of 254 leaves them, 255 turns them into the background too
     ∷ (framed_row true (at_most 254) 0, done (ground_bytes ∷ red_bytes ∷ ground_bytes ∷ red_bytes ∷ ground_bytes ∷ []))
     ∷ (framed_row true (at_most 254) 3, done (red_bytes ∷ red_bytes ∷ red_bytes ∷ red_bytes ∷ red_bytes ∷ []))
@@ -85,7 +84,7 @@ unfoldable pub trim_lines : List Line
 trim_lines =
     -- turned, the page is 5x4: rows 0 to 2, and 1 to 2 over a background
     (
-      composing (trimmed turned_art) (counting 0 83) 0 Clear 0 3 60,
+      composing (trimmed turned_art) (counting 0 83) 0 None 0 3 60,
       done
           (counted 159 ∷ counted 159 ∷ counted 143 ∷ counted 127 ∷ counted 127
           ∷ counted 159 ∷ counted 159 ∷ counted 143 ∷ counted 127 ∷ counted 127
@@ -128,7 +127,7 @@ unfoldable pub page_lines : List Line
 page_lines =
     -- all of page 0, and rows 1 to 3 of page 1
     (
-      composing two_pages (counting 16 0) 0 Clear 0 3 48,
+      composing two_pages (counting 16 0) 0 None 0 3 48,
       done
           (counted 0 ∷ counted 0 ∷ counted 4 ∷ counted 4
           ∷ counted 0 ∷ counted 0 ∷ counted 4 ∷ counted 4
@@ -136,7 +135,7 @@ page_lines =
           ∷ []),
     )
     ∷ (
-      composing two_pages (counting 16 0) 1 Clear 1 3 36,
+      composing two_pages (counting 16 0) 1 None 1 3 36,
       done
           (counted 8 ∷ counted 8 ∷ counted 8
           ∷ counted 12 ∷ counted 12 ∷ counted 12
@@ -157,16 +156,16 @@ page_lines =
     )
     -- an empty page below the count answers 12; forced it is background, and the image of page 1 is of no concern to it
     ∷ (asking empty_first (counting 16 0) 0 0 1 8, refused_both 12 8)
-    ∷ (composing empty_first (counting 16 0) 1 Clear 0 1 8, done (counted 0 ∷ counted 4 ∷ []))
+    ∷ (composing empty_first (counting 16 0) 1 None 0 1 8, done (counted 0 ∷ counted 4 ∷ []))
     ∷ (
       composing forced_pages (counting 0 0) 0 plain 0 3 24,
       done (ground_bytes ∷ ground_bytes ∷ ground_bytes ∷ ground_bytes ∷ ground_bytes ∷ ground_bytes ∷ []),
     )
-    ∷ (composing forced_pages (counting 0 0) 0 Clear 2 1 8, done (clear ∷ clear ∷ []))
+    ∷ (composing forced_pages (counting 0 0) 0 None 2 1 8, done (clear ∷ clear ∷ []))
     ∷ (asking forced_pages (counting 0 0) 1 2 1 8, refused_both 5 8)
     ∷ (asking forced_pages (counting 36 0) 2 0 1 8, refused_both 11 8)
     -- what lies past a forced page's edge is cut off
-    ∷ (composing forced_pages (counting 36 0) 1 Clear 1 2 16, done (counted 12 ∷ counted 16 ∷ counted 24 ∷ counted 28 ∷ []))
+    ∷ (composing forced_pages (counting 36 0) 1 None 1 2 16, done (counted 12 ∷ counted 16 ∷ counted 24 ∷ counted 28 ∷ []))
     ∷ []
 
 -- ## zones
@@ -183,29 +182,29 @@ unfoldable pub zone_lines : List Line
 zone_lines =
     -- cut off there, and the next row begins as if it had not been
     (
-      composing passing (counting 12 0) 0 Clear 0 3 36,
+      composing passing (counting 12 0) 0 None 0 3 36,
       done
           (counted 4 ∷ counted 0 ∷ counted 0
           ∷ counted 4 ∷ counted 0 ∷ counted 0
           ∷ counted 8 ∷ counted 0 ∷ counted 0
           ∷ []),
     )
-    ∷ (composing (extruded 0 0) (counting 12 0) 0 Clear 0 1 12, done (counted 0 ∷ counted 4 ∷ counted 8 ∷ []))
+    ∷ (composing (extruded 0 0) (counting 12 0) 0 None 0 1 12, done (counted 0 ∷ counted 4 ∷ counted 8 ∷ []))
     ∷ (
       composing (extruded 1 3) (counting 12 0) 0 plain 0 2 32,
       done (ground_bytes ∷ ground_bytes ∷ ground_bytes ∷ ground_bytes ∷ counted 0 ∷ counted 0 ∷ counted 4 ∷ counted 8 ∷ []),
     )
     ∷ (
-      composing full_width (counting 8 0) 0 Clear 0 1 24,
+      composing full_width (counting 8 0) 0 None 0 1 24,
       done (counted 0 ∷ counted 0 ∷ counted 0 ∷ counted 0 ∷ counted 0 ∷ counted 4 ∷ []),
     )
     -- the earliest wins, also where its pixel becomes the background
     ∷ (
-      composing (shared left right) (counting 72 0) 0 Clear 1 1 24,
+      composing (shared left right) (counting 72 0) 0 None 1 1 24,
       done (counted 16 ∷ counted 20 ∷ counted 24 ∷ counted 28 ∷ counted 56 ∷ counted 60 ∷ []),
     )
     ∷ (
-      composing (shared right left) (counting 72 0) 0 Clear 1 1 24,
+      composing (shared right left) (counting 72 0) 0 None 1 1 24,
       done (counted 16 ∷ counted 20 ∷ counted 48 ∷ counted 52 ∷ counted 56 ∷ counted 60 ∷ []),
     )
     ∷ (
@@ -214,7 +213,7 @@ zone_lines =
     )
     -- another page's frames show nothing
     ∷ (
-      composing (shared left right) (counting 72 0) 1 Clear 0 2 24,
+      composing (shared left right) (counting 72 0) 1 None 0 2 24,
       done (counted 48 ∷ counted 52 ∷ counted 56 ∷ counted 60 ∷ counted 64 ∷ counted 68 ∷ []),
     )
     ∷ []

@@ -1,13 +1,12 @@
 -- The table's lines about refusals in order, which compose rows and check rows share, and about what check rows answers.
 -- Assumes nothing.
-use Rattle.std.specs.Prelude.{ℕ, true, List, [], ◌∷◌}
+use Rattle.std.specs.Prelude.{ℕ, true, None, List, [], ◌∷◌}
 use Rattle.art.specs.declared.memory_rgba8_texture.Store.TheVariants.{Symbols}
 use Rattle.records.specs.Samples.{bit, limits}
 use Rattle.records.specs.declared.layout.Layout.{Layout}
 use Rattle.lookup.specs.TableWords.{Line, counting, standing_in, whole}
 use Rattle.lookup.specs.Table.{both_stores, trimmed, turned_art, framed, shared, left, right, empty_first, unformed}
-use Rattle.paint.specs.declared.background.Background.{Background}
-use Rattle.paint.specs.declared.background.Background.TheVariants.{Clear}
+use Rattle.paint.specs.Backgrounds.{Background}
 use Rattle.compose.specs.Composing.{empty_page}
 use Rattle.compose.specs.TableWords.{plain, at_most, at_most_discarding, counted, ground_bytes, clear, pixels, composing, done, checking, checking_composed, same, off, changed, asking, refused_both}
 
@@ -87,14 +86,14 @@ unfoldable pub check_wide : Background → ℕ → ℕ → List ℕ → List ℕ
 check_wide g first n bytes = checking wide (counting 52 0) 0 g first n bytes
 
 unfoldable pub check_changed : ℕ → List ℕ
-check_changed i = check_wide Clear 1 2 (changed i wide_rows)
+check_changed i = check_wide None 1 2 (changed i wide_rows)
 
 unfoldable pub check_both_changed : ℕ → ℕ → List ℕ
-check_both_changed i j = check_wide Clear 1 2 (changed i (changed j wide_rows))
+check_both_changed i j = check_wide None 1 2 (changed i (changed j wide_rows))
 
 -- 1x3, higher than wide
 unfoldable pub check_tall : List (List ℕ) → List ℕ
-check_tall ks = checking (standing_in (limits 16 16 0 0 0 1 1) (whole 1 0 0 0 1 3 Symbols 0 ∷ [])) (counting 12 0) 0 Clear 0 3 (pixels ks)
+check_tall ks = checking (standing_in (limits 16 16 0 0 0 1 1) (whole 1 0 0 0 1 3 Symbols 0 ∷ [])) (counting 12 0) 0 None 0 3 (pixels ks)
 
 unfoldable pub check_lines : List Line
 check_lines =
@@ -115,11 +114,11 @@ check_lines =
     )
     -- the rows that are asked for, and no others
     ∷ (
-      check_wide Clear 1 2 wide_rows ∷ check_wide Clear 2 1 wide_last ∷ check_wide Clear 0 1 wide_top ∷ [],
+      check_wide None 1 2 wide_rows ∷ check_wide None 2 1 wide_last ∷ check_wide None 0 1 wide_top ∷ [],
       same ∷ same ∷ same ∷ [],
     )
     ∷ (
-      check_wide Clear 0 2 wide_rows ∷ check_wide Clear 0 1 wide_last ∷ check_wide Clear 1 1 wide_top ∷ [],
+      check_wide None 0 2 wide_rows ∷ check_wide None 0 1 wide_last ∷ check_wide None 1 1 wide_top ∷ [],
       off 0 0 ∷ off 0 0 ∷ off 0 1 ∷ [],
     )
     -- and all of them
@@ -137,7 +136,7 @@ check_lines =
       checking_composed holed (counting 20 0) 0 (at_most_discarding 11) 1 2 24
           ∷ checking_composed (trimmed turned_art) (counting 0 83) 0 plain 1 2 40
           ∷ checking_composed (framed true) (counting 36 0) 0 (at_most 254) 3 2 40
-          ∷ checking_composed (shared left right) (counting 72 0) 1 Clear 1 1 12
+          ∷ checking_composed (shared left right) (counting 72 0) 1 None 1 1 12
           ∷ [],
       same ∷ same ∷ same ∷ same ∷ [],
     )

@@ -1,14 +1,12 @@
 -- Words of the computed table: backgrounds, buffers, what is composed into them and what checking them answers.
 -- Assumes nothing.
-use Rattle.std.specs.Prelude.{ℕ, true, false, List, [], ◌∷◌, ◌++◌, set}
+use Rattle.std.specs.Prelude.{ℕ, true, false, Some, None, List, [], ◌∷◌, ◌++◌, set}
 use Rattle.geometry.specs.Words.{from, flat}
 use Rattle.art.specs.Stores.{Stores}
 use Rattle.art.specs.declared.memory_rgba8_texture.Pixel.{Pixel}
 use Rattle.records.specs.declared.layout.Layout.{Layout}
 use Rattle.lookup.specs.TableWords.{page}
-use Rattle.paint.specs.declared.background.Background.{Background}
-use Rattle.paint.specs.declared.background.Background.TheVariants.{Clear, Colour}
-use Rattle.paint.specs.declared.background.Threshold.TheVariants.{Unset, AtMost}
+use Rattle.paint.specs.Backgrounds.{Background}
 use Rattle.compose.specs.Composing.{composed_answer, composed_buffer, composed_numbers}
 use Rattle.compose.specs.Checking.{checked_rows, checked_numbers}
 
@@ -18,16 +16,16 @@ unfoldable pub colour : Pixel
 colour = record { r = 9; g = 8; b = 7; a = 6 }
 
 unfoldable pub plain : Background
-plain = Colour colour Unset false
+plain = Some (record { pixel = colour; threshold = None; discard = false })
 
 unfoldable pub plain_discarding : Background
-plain_discarding = Colour colour Unset true
+plain_discarding = Some (record { pixel = colour; threshold = None; discard = true })
 
 unfoldable pub at_most : ℕ → Background
-at_most t = Colour colour (AtMost t) false
+at_most t = Some (record { pixel = colour; threshold = Some t; discard = false })
 
 unfoldable pub at_most_discarding : ℕ → Background
-at_most_discarding t = Colour colour (AtMost t) true
+at_most_discarding t = Some (record { pixel = colour; threshold = Some t; discard = true })
 
 -- ## pixels as bytes: four that count from n on, the same with alpha 255, the background's colour, 0,0,0,0 and an outline's
 
@@ -88,8 +86,8 @@ changed i bytes = set bytes i 77
 unfoldable pub asking : Layout → Stores → ℕ → ℕ → ℕ → ℕ → List (List ℕ)
 asking l s p first n len =
     composed_numbers (composed_answer l s (page p) first n (room len))
-    ∷ composed_buffer l s (page p) Clear first n (room len)
-    ∷ checking l s p Clear first n (room len)
+    ∷ composed_buffer l s (page p) None first n (room len)
+    ∷ checking l s p None first n (room len)
     ∷ []
 
 unfoldable pub refused_both : ℕ → ℕ → List (List ℕ)

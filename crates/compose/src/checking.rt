@@ -8,10 +8,11 @@ ghost use Rattle.lookup.specs.Looking.{page_past};
 ghost use Rattle.paint.specs.Pictures.{composed_at};
 ghost use Rattle.paint.specs.Painting.{Shows};
 ghost use Rattle.compose.specs.Checking.{same_pixel, compared, checked_rows, checked_numbers};
-ghost use Rattle.compose.specs.Comparing.{off_at, is_same};
+ghost use Rattle.compose.specs.Comparing.{off_at};
 
 use crate::image_exporter;
-use crate::image_exporter::Composed;
+use art::memory_rgba8_texture;
+use art::memory_rgba8_texture::Stores;
 use paint::background::Background;
 use paint::painting;
 use records::frame::Page;
@@ -19,88 +20,62 @@ use records::layout;
 use records::layout::Layout;
 use records::refusal::Refusal;
 
-#[derive(Clone, Copy)]
-pub enum Checked {
-    Same,
-    Differs(u32, u32),
-    Refused(Refusal),
-}
-
 // Pixel number i of the one is pixel number j of the other.
-fn same_pixel<'a>(a: &'a [u8], i: usize, b: &'a [u8], j: usize) -> bool
+fn same_pixel(a: &[u8], i: usize, b: &[u8], j: usize) -> bool
     requires { (4 * i + 4 ≤ length a.now) × (4 * j + 4 ≤ length b.now) }
     ensures { result ≡ same_pixel (pixel_from a.now (4 * i)) (pixel_from b.now (4 * j)) }
 {
-    let m = 4 * i;
-    let n = 4 * j;
-    (a[m] == b[n]) & (a[m + 1] == b[n + 1]) & (a[m + 2] == b[n + 2]) & (a[m + 3] == b[n + 3])
+    memory_rgba8_texture::pixel_from(a, 4 * i) == memory_rgba8_texture::pixel_from(b, 4 * j)
 }
 
 // The first of the w pixels from pixel number `base` on that is not the same in both; or w.
-fn first_off<'a>(shown: &'a [u8], wanted: &'a [u8], base: usize, w: u32) -> u32
+fn first_off(shown: &[u8], wanted: &[u8], base: usize, w: u32) -> u32
     requires { (4 * (base + w) ≤ length shown.now) × (4 * (base + w) ≤ length wanted.now) }
     ensures { result ≡ first_seen (off_at shown.now wanted.now base) w }
 {
-    let mut x: u32 = 0;
-    while x < w {
+    for x in 0..w {
         let i = base + x as usize;
         if !same_pixel(shown, i, wanted, i) {
             return x;
         }
-        x += 1;
     }
-    x
+    w
 }
 
 // The lent rows, one after the other, against the wanted ones, which are the page's from row `first` on.
-fn compare_rows<'a>(shown: &'a [u8], wanted: &'a [u8], w: u32, first: u32, rows: u32) -> Checked
+fn compare_rows(shown: &[u8], wanted: &[u8], w: u32, first: u32, rows: u32) -> Option<(u32, u32)>
     requires { (w ≤ 6271) × (first + rows ≤ 6271) × (length shown.now ≡ 4 * (w * rows)) × (length wanted.now ≡ 4 * (w * rows)) }
     ensures { (f : ℕ → ℕ → Pixel) → Shows f w first rows wanted.now → result ≡ compared f w first rows shown.now }
 {
-    let mut v: u32 = 0;
-    while v < rows {
+    for v in 0..rows {
         let y = first + v;
         let base = v as usize * w as usize;
         let x = first_off(shown, wanted, base, w);
         if x < w {
-            return Checked::Differs(x, y);
+            return Some((x, y));
         }
-        v += 1;
     }
-    Checked::Same
+    None
 }
 
 // The lent rows against the page's from `first` on, which are composed in `wanted`.
-fn check_part<'a>(
+fn check_part(
     wanted: &mut [u8],
     l: Layout,
-    symbols: &'a [u8],
-    wording: &'a [u8],
+    stores: Stores<'_>,
     page: Page,
     background: Background,
     w: u32,
     first: u32,
     rows: u32,
-    shown: &'a [u8],
-) -> Checked
-    requires l_value { (well_formed l ≡ true) × (page_past (lent symbols.now wording.now) page (standing l) ≡ false) }
+    shown: &[u8],
+) -> Option<(u32, u32)>
+    requires l_value { (well_formed l ≡ true) × (page_past (lent stores) page (standing l) ≡ false) }
     requires w_bound { (w ≤ 6271) × (first + rows ≤ 6271) × (length wanted.old ≡ 4 * (w * rows)) × (length shown.now ≡ 4 * (w * rows)) }
-    ensures { result ≡ compared (composed_at l (lent symbols.now wording.now) page background) w first rows shown.now }
+    ensures { result ≡ compared (composed_at l (lent stores.entry) page background) w first rows shown.now }
 {
-    painting::paint_band(
-        wanted, l, symbols, wording, page, background, w, first, rows,
-    );
+    painting::paint_band(wanted, l, stores, page, background, w, first, rows);
     compare_rows(shown, wanted, w, first, rows)
-}
-
-fn is_same(c: Checked) -> bool
-    ensures { result ≡ is_same c }
-{
-    match c {
-        Checked::Same => true,
-        Checked::Differs(_, _) => false,
-        Checked::Refused(_) => false,
-    }
 }
 
 // How many rows of a page that is w pixels wide are composed at once; the widest page has 6271 columns.
@@ -108,50 +83,46 @@ fn rows_at_once(w: u32, rows: u32) -> u32
     requires { (1 ≤ w) × (w ≤ 6271) × (1 ≤ rows) }
     ensures { (1 ≤ result) × (result ≤ rows) × (w * result ≤ 6271) }
 {
-    let most = 6271 / w;
-    if most < rows { most } else { rows }
+    rows.min(6271 / w)
 }
 
 // The lent rows, some at a time, against the page's rows from `first` on.
-fn check_band<'a>(
+fn check_band(
     room: &mut [u8],
     l: Layout,
-    symbols: &'a [u8],
-    wording: &'a [u8],
+    stores: Stores<'_>,
     page: Page,
     background: Background,
     w: u32,
     first: u32,
     rows: u32,
-    shown: &'a [u8],
-) -> Checked
-    requires l_value { (well_formed l ≡ true) × (page_past (lent symbols.now wording.now) page (standing l) ≡ false) }
+    shown: &[u8],
+) -> Option<(u32, u32)>
+    requires l_value { (well_formed l ≡ true) × (page_past (lent stores) page (standing l) ≡ false) }
     requires le_w { (1 ≤ w) × (w ≤ 6271) × (first + rows ≤ 6271) × (length room.old ≡ 25084) × (length shown.now ≡ 4 * (w * rows)) }
-    ensures { result ≡ compared (composed_at l (lent symbols.now wording.now) page background) w first rows shown.now }
+    ensures { result ≡ compared (composed_at l (lent stores.entry) page background) w first rows shown.now }
 {
     let mut v: u32 = 0;
     while v < rows {
         let n = rows_at_once(w, rows - v);
         let from = 4 * (v as usize * w as usize);
         let long = 4 * (n as usize * w as usize);
-        let c = check_part(
+        if let Some(off) = check_part(
             &mut room[..long],
             l,
-            symbols,
-            wording,
+            stores,
             page,
             background,
             w,
             first + v,
             n,
             &shown[from..from + long],
-        );
-        if !is_same(c) {
-            return c;
+        ) {
+            return Some(off);
         }
         v += n;
     }
-    Checked::Same
+    None
 }
 
 // Room for a row of the widest page, and for several of a narrower one.
@@ -162,27 +133,23 @@ fn new_room() -> [u8; 25084]
 }
 
 // check rows: 2 11 12 13 14 5
-pub fn check_rows<'a>(
+pub fn check_rows(
     l: Layout,
-    symbols: &'a [u8],
-    wording: &'a [u8],
+    stores: Stores<'_>,
     page: Page,
     background: Background,
     first: u32,
     rows: u32,
-    shown: &'a [u8],
-) -> Checked
-    ensures value { result ≡ checked_rows l (lent symbols.now wording.now) page background first rows shown.now }
-    ensures result_value { checked_numbers result ≡ checked_numbers (checked_rows l (lent symbols.now wording.now) page background first rows shown.now) }
+    shown: &[u8],
+) -> Result<Option<(u32, u32)>, Refusal>
+    ensures value { result ≡ checked_rows l (lent stores.entry) page background first rows shown.now }
+    ensures result_value { checked_numbers result ≡ checked_numbers (checked_rows l (lent stores.entry) page background first rows shown.now) }
 {
-    match image_exporter::band_answer(l, symbols, wording, page, first, rows, shown.len()) {
-        Composed::Refused(r) => Checked::Refused(r),
-        Composed::Done => {
-            let s = layout::size_of_page(l, page);
-            let mut room = new_room();
-            check_band(
-                &mut room, l, symbols, wording, page, background, s.w, first, rows, shown,
-            )
-        }
-    }
+    image_exporter::band_answer(l, stores, page, first, rows, shown.len())?;
+    let s = layout::size_of_page(l, page);
+    let mut room = new_room();
+    let off = check_band(
+        &mut room, l, stores, page, background, s.w, first, rows, shown,
+    );
+    Ok(off)
 }

@@ -4,6 +4,7 @@ ghost use Rattle.std.specs.Prelude.{◌≡◌, ◌≤◌};
 ghost use Rattle.art.specs.Stores.{lent};
 ghost use Rattle.compose.specs.Composing.{empty_page, bad_rows, bad_length, compose_answer, band_refusal, composed_answer, composed_buffer, composed_numbers};
 
+use art::memory_rgba8_texture::Stores;
 use geometry::rect::Size;
 use lookup::texture_packer;
 use paint::background::Background;
@@ -12,12 +13,6 @@ use records::frame::Page;
 use records::layout;
 use records::layout::Layout;
 use records::refusal::Refusal;
-
-#[derive(Clone, Copy)]
-pub enum Composed {
-    Done,
-    Refused(Refusal),
-}
 
 fn empty_page(s: Size) -> bool
     ensures { result ≡ empty_page s }
@@ -41,62 +36,54 @@ fn bad_length(s: Size, rows: u32, len: usize) -> bool
 }
 
 // compose rows, check rows: 2 11 12 13 14 5
-pub fn band_answer<'a>(
+pub fn band_answer(
     l: Layout,
-    symbols: &'a [u8],
-    wording: &'a [u8],
+    stores: Stores<'_>,
     page: Page,
     first: u32,
     rows: u32,
     len: usize,
-) -> Composed
-    ensures { result ≡ compose_answer (band_refusal l (lent symbols.now wording.now) page first rows len) }
+) -> Result<(), Refusal>
+    ensures { result ≡ compose_answer (band_refusal l (lent stores.entry) page first rows len) }
 {
     if !layout::well_formed(l) {
-        return Composed::Refused(Refusal::NotWellFormed);
+        return Err(Refusal::NotWellFormed);
     }
     if layout::page_count(l) <= page.0 {
-        return Composed::Refused(Refusal::NoSuchPage);
+        return Err(Refusal::NoSuchPage);
     }
     let s = layout::size_of_page(l, page);
     if empty_page(s) {
-        return Composed::Refused(Refusal::EmptyPage);
+        return Err(Refusal::EmptyPage);
     }
     if bad_rows(s, first, rows) {
-        return Composed::Refused(Refusal::BadRows);
+        return Err(Refusal::BadRows);
     }
     if bad_length(s, rows, len) {
-        return Composed::Refused(Refusal::BadLength);
+        return Err(Refusal::BadLength);
     }
-    if texture_packer::page_past(l, symbols, wording, page) {
-        return Composed::Refused(Refusal::PastStore);
+    if texture_packer::page_past(l, stores, page) {
+        return Err(Refusal::PastStore);
     }
-    Composed::Done
+    Ok(())
 }
 
 // compose rows: the background is none, or a colour with an optional threshold and the discard switch. Nothing is written where it refuses.
-pub fn compose_rows<'a>(
+pub fn compose_rows(
     l: Layout,
-    symbols: &'a [u8],
-    wording: &'a [u8],
+    stores: Stores<'_>,
     page: Page,
     background: Background,
     first: u32,
     rows: u32,
     buffer: &mut [u8],
-) -> Composed
-    ensures value { result ≡ composed_answer l (lent symbols.now wording.now) page first rows buffer.old }
-    ensures result_value { composed_numbers result ≡ composed_numbers (composed_answer l (lent symbols.now wording.now) page first rows buffer.old) }
-    ensures buffer_after { buffer.new ≡ composed_buffer l (lent symbols.now wording.now) page background first rows buffer.old }
+) -> Result<(), Refusal>
+    ensures value { result ≡ composed_answer l (lent stores.entry) page first rows buffer.old }
+    ensures result_value { composed_numbers result ≡ composed_numbers (composed_answer l (lent stores.entry) page first rows buffer.old) }
+    ensures buffer_after { buffer.new ≡ composed_buffer l (lent stores.entry) page background first rows buffer.old }
 {
-    match band_answer(l, symbols, wording, page, first, rows, buffer.len()) {
-        Composed::Refused(r) => Composed::Refused(r),
-        Composed::Done => {
-            let s = layout::size_of_page(l, page);
-            painting::paint_band(
-                buffer, l, symbols, wording, page, background, s.w, first, rows,
-            );
-            Composed::Done
-        }
-    }
+    band_answer(l, stores, page, first, rows, buffer.len())?;
+    let s = layout::size_of_page(l, page);
+    painting::paint_band(buffer, l, stores, page, background, s.w, first, rows);
+    Ok(())
 }

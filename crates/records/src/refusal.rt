@@ -3,24 +3,24 @@ use std::fmt;
 
 #[derive(Clone, Copy, PartialEq, Eq)]
 pub enum Refusal {
-    OutOfBounds,
-    NotWellFormed,
-    NotFaithful,
-    BadSize,
-    PastStore,
-    KeyStands,
-    AllClear,
-    TooLarge,
-    ImageLimit,
-    PageLimit,
-    NoSuchPage,
-    EmptyPage,
-    BadRows,
-    BadLength,
-    NoSuchKey,
-    PastPage,
-    BadInset,
-    NothingStands,
+    OutOfBounds = 1,
+    NotWellFormed = 2,
+    NotFaithful = 3,
+    BadSize = 4,
+    PastStore = 5,
+    KeyStands = 6,
+    AllClear = 7,
+    TooLarge = 8,
+    ImageLimit = 9,
+    PageLimit = 10,
+    NoSuchPage = 11,
+    EmptyPage = 12,
+    BadRows = 13,
+    BadLength = 14,
+    NoSuchKey = 15,
+    PastPage = 16,
+    BadInset = 17,
+    NothingStands = 18,
 }
 
 impl From<Refusal> for u32 {
@@ -30,26 +30,7 @@ impl From<Refusal> for u32 {
     ghost from_gives = { λ r n. n ≡ number_of r };
 
     fn from(r: Refusal) -> u32 {
-        match r {
-            Refusal::OutOfBounds => 1,
-            Refusal::NotWellFormed => 2,
-            Refusal::NotFaithful => 3,
-            Refusal::BadSize => 4,
-            Refusal::PastStore => 5,
-            Refusal::KeyStands => 6,
-            Refusal::AllClear => 7,
-            Refusal::TooLarge => 8,
-            Refusal::ImageLimit => 9,
-            Refusal::PageLimit => 10,
-            Refusal::NoSuchPage => 11,
-            Refusal::EmptyPage => 12,
-            Refusal::BadRows => 13,
-            Refusal::BadLength => 14,
-            Refusal::NoSuchKey => 15,
-            Refusal::PastPage => 16,
-            Refusal::BadInset => 17,
-            Refusal::NothingStands => 18,
-        }
+        r as u32
     }
 }
 

@@ -21,7 +21,7 @@ pub struct Config {
 pub fn is_within(a: u32, b: u32, n: u32) -> bool
     ensures { result ≡ within a b n }
 {
-    (a <= n) & (n <= b)
+    (a..=b).contains(&n)
 }
 
 pub fn in_bounds(c: Config) -> bool

@@ -8,10 +8,9 @@ use lib.Seq.{length-take-le}
 use Rattle.art.specs.Stores.{lent}
 use Rattle.paint.specs.Pictures.{composed_at}
 use Rattle.compose.specs.Checking.{compared}
-use Rattle.compose.specs.Comparing.{is_same}
 use Rattle.compose.proofs.Comparing.{all_same, part_same, part-differs}
 use Rattle.compose.proofs.checking.check_band.Goals.{After-rows_at_once-n}
-use Rattle.compose.proofs.checking.check_band.Goals.{After-is_same}
+use Rattle.compose.proofs.checking.check_band.Goals.{After-check_part}
 use Rattle.compose.proofs.checking.check_band.Goals as goal
 
 -- the next n of the m lent rows
@@ -99,9 +98,9 @@ slice_bounds-check_part-count c = omega arith
 pub slice_bounds-check_part-start : goal.slice_bounds-check_part-start
 slice_bounds-check_part-start c = omega arith
 
-pub check_part-c-requires : goal.check_part-c-requires
-check_part-c-requires c =
-    let t = next (goal.at.check_part-c-requires c).After-rows_at_once-n in
+pub check_part-requires : goal.check_part-requires
+check_part-requires c =
+    let t = next (goal.at.check_part-requires c).After-rows_at_once-n in
     let f = t.fits in
     let within = t.within in
     let turned = t.turned in
@@ -115,46 +114,38 @@ check_part-c-requires c =
     let n = 4 * (k * w) in
     let left = length-drop at shown in
     let own : length (take (at + n - at) (drop at shown)) ≡ 4 * (w * k) = length-take-le (at + n - at) (drop at shown) (omega arith) ∙ omega arith in
-    record { l_value = p.l_value; w_bound = (p.le_w.1, omega arith, length-take-le _ _ (roomy (goal.at.check_part-c-requires c).After-rows_at_once-n) ∙ ap (λ (k : ℕ). 4 * k) turned, own) }
+    record { l_value = p.l_value; w_bound = (p.le_w.1, omega arith, length-take-le _ _ (roomy (goal.at.check_part-requires c).After-rows_at_once-n) ∙ ap (λ (k : ℕ). 4 * k) turned, own) }
 
 -- what the part answered, of the lent rows that were its own
-answered : (c : After-is_same) →
+answered : (c : After-check_part) →
     let a = c.args in
     let v = c.loop-v.v in
     let n = c.rows_at_once-n.result in
-    c.check_part-c.result ≡ compared (composed_at a.l (lent a.symbols.now a.wording.now) a.page a.background) a.w (a.first + v) n (take (4 * (n * a.w)) (drop (4 * (v * a.w)) a.shown.now))
+    c.check_part.result ≡ compared (composed_at a.l (lent a.stores) a.page a.background) a.w (a.first + v) n (take (4 * (n * a.w)) (drop (4 * (v * a.w)) a.shown.now))
 answered c =
     let a = c.args in
     let v = c.loop-v.v in
     let n = c.rows_at_once-n.result in
     let m : 4 * (v * a.w) + 4 * (n * a.w) - 4 * (v * a.w) ≡ 4 * (n * a.w) = omega arith in
-    c.check_part-c.ensures
-    ∙ ap (λ (k : ℕ). compared (composed_at a.l (lent a.symbols.now a.wording.now) a.page a.background) a.w (a.first + v) n (take k (drop (4 * (v * a.w)) a.shown.now))) m
-
--- and whether it was the same
-same : (c : After-is_same) →
-    let a = c.args in
-    let v = c.loop-v.v in
-    let n = c.rows_at_once-n.result in
-    is_same (compared (composed_at a.l (lent a.symbols.now a.wording.now) a.page a.background) a.w (a.first + v) n (take (4 * (n * a.w)) (drop (4 * (v * a.w)) a.shown.now))) ≡ c.is_same.result
-same c = ap is_same (sym (answered c)) ∙ sym c.is_same.ensures
+    c.check_part.ensures
+    ∙ ap (λ (k : ℕ). compared (composed_at a.l (lent a.stores) a.page a.background) a.w (a.first + v) n (take k (drop (4 * (v * a.w)) a.shown.now))) m
 
 -- the room is as long as it was
-kept : (c : After-is_same) → 4 * (c.rows_at_once-n.result * c.args.w) ≤ length c.loop-v.room
-    → length (c.check_part-c.new.wanted ++ drop (4 * (c.rows_at_once-n.result * c.args.w)) c.loop-v.room) ≡ length c.args.room.now
+kept : (c : After-check_part) → 4 * (c.rows_at_once-n.result * c.args.w) ≤ length c.loop-v.room
+    → length (c.check_part.new.wanted ++ drop (4 * (c.rows_at_once-n.result * c.args.w)) c.loop-v.room) ≡ length c.args.room.now
 kept c fits =
     let m = 4 * (c.rows_at_once-n.result * c.args.w) in
     let room = c.loop-v.room in
-    let front : length c.check_part-c.new.wanted ≡ m = c.check_part-c.auto.wanted ∙ length-take-le m room fits in
+    let front : length c.check_part.new.wanted ≡ m = c.check_part.auto.wanted ∙ length-take-le m room fits in
     let back = length-drop m room in
-    let both = length-append c.check_part-c.new.wanted (drop m room) in
+    let both = length-append c.check_part.new.wanted (drop m room) in
     let all = c.loop-v.invariant.1 in
     omega arith
 
-pub returns-then-not-is_same : goal.returns-then-not-is_same
-returns-then-not-is_same c =
+pub returns-in-Some : goal.returns-in-Some
+returns-in-Some c =
     let l = c.loop-v in
-    answered (goal.at.returns-then-not-is_same c).After-is_same ∙ sym (part-differs _ _ _ _ _ l.v _ l.invariant.2 (next (goal.at.returns-then-not-is_same c).After-rows_at_once-n).within (same (goal.at.returns-then-not-is_same c).After-is_same ∙ c.if-not-is_same.true))
+    sym (part-differs _ _ _ _ _ l.v _ l.invariant.2 (next (goal.at.returns-in-Some c).After-rows_at_once-n).within (sym (answered (goal.at.returns-in-Some c).After-check_part) ∙ c.in-Some.is))
 
 pub overflow_add-v : goal.overflow_add-v
 overflow_add-v c = let w = (next (goal.at.overflow_add-v c).After-rows_at_once-n).within in omega arith
@@ -165,7 +156,8 @@ loop-v-smaller c = let t = next (goal.at.loop-v-smaller c).After-rows_at_once-n 
 pub loop-v-preserved : goal.loop-v-preserved
 loop-v-preserved c =
     let l = c.loop-v in
-    ((next (goal.at.loop-v-preserved c).After-rows_at_once-n).within, kept (goal.at.loop-v-preserved c).After-is_same (roomy (goal.at.loop-v-preserved c).After-rows_at_once-n), part_same _ _ _ _ _ l.v _ l.invariant.2 (same (goal.at.loop-v-preserved c).After-is_same ∙ c.if-not-is_same.false))
+    let at = (goal.at.loop-v-preserved c).After-check_part in
+    ((next (goal.at.loop-v-preserved c).After-rows_at_once-n).within, kept at (roomy (goal.at.loop-v-preserved c).After-rows_at_once-n), part_same _ _ _ _ _ l.v _ l.invariant.2 (sym (answered at) ∙ c.in_default.is))
 
 pub returns : goal.returns
 returns c = let l = c.loop-v in sym (all_same _ _ _ _ _ l.v c.loop-v-test.false l.invariant.2)

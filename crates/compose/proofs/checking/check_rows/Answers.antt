@@ -1,29 +1,21 @@
 use Prim.Native.Nat.{◌*◌}
 use native.Mathlib.Omega.{arith}
-use mathlib.Core.Path.{sym, ap, ◌∙◌}
-use lib.ListN.{length}
+use mathlib.Core.Path.{◌≡◌, sym, ap, ◌∙◌}
+use Rattle.std.proofs.Common.{rules, Ok, Err}
 use Rattle.geometry.specs.declared.rect.Size.{Size}
-use Rattle.art.specs.Stores.{lent}
 use Rattle.records.proofs.Answers.{says}
 use Rattle.records.proofs.Pages.{side_w, side_h}
 use Rattle.compose.specs.Checking.{checked_numbers}
-use Rattle.compose.proofs.Answers.{Unrefused, done_unrefused, check_refused, check_compared}
-use Rattle.compose.proofs.checking.check_rows.Goals.{In-Done}
+use Rattle.compose.proofs.Answers.{done_unrefused, check_refused, check_compared}
 use Rattle.compose.proofs.checking.check_rows.Goals as goal
 
 -- `check_rows` compares where no check refuses. Assumes nothing.
--- what the row of checks has let pass
-through : (c : In-Done) →
-    let a = c.args in
-    Unrefused a.l (lent a.symbols.now a.wording.now) a.page a.first a.rows (length a.shown.now)
-through c = done_unrefused _ _ _ _ _ _ (sym c.band_answer.ensures ∙ c.in-Done.is)
-
 pub size_of_page-s-requires : goal.size_of_page-s-requires
-size_of_page-s-requires c = (through c).formed
+size_of_page-s-requires c = (done_unrefused _ _ _ _ _ _ (sym c.band_answer.ensures ∙ c.in_ok-band_answer.was)).formed
 
-pub check_band-requires : goal.check_band-requires
-check_band-requires c =
-    let t = through (goal.at.check_band-requires c).In-Done in
+pub check_band-off-requires : goal.check_band-off-requires
+check_band-off-requires c =
+    let t = done_unrefused _ _ _ _ _ _ (sym c.band_answer.ensures ∙ c.in_ok-band_answer.was) in
     let a = c.args in
     let z = c.size_of_page-s.ensures in
     let w = ap (λ (k : Size). k.w) z in
@@ -33,14 +25,15 @@ check_band-requires c =
     let in-page = t.within in
     record { l_value = (t.formed, t.stored); le_w = (omega arith, omega arith, omega arith, c.new_room-room.ensures, t.long ∙ ap (λ (k : Size). 4 * (k.w * a.rows)) (sym z)) }
 
-pub returns-in-Refused : goal.returns-in-Refused
-returns-in-Refused c =
-    let both = says checked_numbers (check_refused _ _ _ _ _ _ _ (sym c.band_answer.ensures ∙ c.in-Refused.is)) in
+pub returns-in_err-band_answer : goal.returns-in_err-band_answer
+returns-in_err-band_answer c =
+    let out : c.from_residual.result ≡ Err c.in_err-band_answer.field-0.0 = search rules in
+    let both = says checked_numbers (out ∙ check_refused _ _ _ _ _ _ _ (sym c.band_answer.ensures ∙ c.in_err-band_answer.was)) in
     record { value = both.0; result_value = both.1 }
 
-pub returns-in-Done : goal.returns-in-Done
-returns-in-Done c =
+pub returns : goal.returns
+returns c =
     let both = says checked_numbers
-    (c.check_band.ensures
-    ∙ check_compared _ _ _ _ _ _ _ _ c.size_of_page-s.ensures (sym c.band_answer.ensures ∙ c.in-Done.is)) in
+    (ap Ok c.check_band-off.ensures
+    ∙ check_compared _ _ _ _ _ _ _ _ c.size_of_page-s.ensures (sym c.band_answer.ensures ∙ c.in_ok-band_answer.was)) in
     record { value = both.0; result_value = both.1 }
