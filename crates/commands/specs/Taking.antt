@@ -1,6 +1,27 @@
--- How many words each command takes after the word that names it.
+-- The word that names a command, and how many words each command takes after it.
 -- Assumes nothing.
-use Rattle.std.specs.Prelude.{ℕ, ◌+◌, ◌*◌, ◌≤◌, List, [], ◌∷◌, length, get_or}
+use Rattle.std.specs.Prelude.{ℕ, ◌+◌, ◌*◌, ◌≤◌, ◌<◌, ◌≡◌, List, [], ◌∷◌, length, get_or, Result, MatchResult}
+use Rattle.commands.specs.declared.command.Command.{Command}
+use Rattle.commands.specs.declared.command.Command.TheVariants.{Open, Ask, Offer, Withdraw, PageSize, Pixel, ComposeRows, CheckRows, RowOfImage, Coordinates, Set, Data}
+use Rattle.commands.specs.declared.command.NoCommand.{NoCommand}
+
+abbrev pub command_number : Command → ℕ
+command_number Open = 0
+command_number Ask = 1
+command_number Offer = 2
+command_number Withdraw = 3
+command_number PageSize = 4
+command_number Pixel = 5
+command_number ComposeRows = 6
+command_number CheckRows = 7
+command_number RowOfImage = 8
+command_number Coordinates = 9
+command_number Set = 10
+command_number Data = 11
+
+-- the command that a word names; 12 and above name none
+abbrev pub Names : ℕ → Result Command NoCommand → Type 0
+Names word r = MatchResult r (λ c. (command_number c ≡ word) × (word < 12)) (λ _. 12 ≤ word)
 
 abbrev pub word_counts : List ℕ
 word_counts = 11 ∷ 3 ∷ 5 ∷ 0 ∷ 1 ∷ 3 ∷ 8 ∷ 10 ∷ 2 ∷ 3 ∷ 3 ∷ 1 ∷ []

@@ -1,6 +1,6 @@
 -- The commands whose answer is words alone: the numbers of the answer, and the layout that goes along.
 -- Assumes nothing.
-use Rattle.std.specs.Prelude.{ℕ, List, [], ◌∷◌, ◌≡◌, get_or}
+use Rattle.std.specs.Prelude.{ℕ, List, ◌≡◌}
 use Rattle.art.specs.Stores.{Stores}
 use Rattle.records.specs.Operations.{opened, opened_numbers, page_sized, sized_numbers}
 use Rattle.records.specs.declared.layout.Layout.{Layout}
@@ -56,20 +56,6 @@ locate_told script at l =
       numbers = located_numbers (located l (key_at script at) (request_of (word script at 2) (word script at 3)));
       layout = l;
     }
-
--- commands 0 to 5, by their number
-unfoldable pub told : List ℕ → ℕ → Stores → Layout → ℕ → Told
-told script at s l command =
-    get_or
-    (open_told script at
-    ∷ ask_told script at l
-    ∷ offer_told script at s l
-    ∷ withdraw_told l
-    ∷ size_told script at l
-    ∷ pixel_told script at s l
-    ∷ [])
-    command
-    (record { numbers = []; layout = l })
 
 -- the code's answer and layout are these
 pub record Tells (t : Told) (o : Outcome) : Type 0 where

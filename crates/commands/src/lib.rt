@@ -2,14 +2,12 @@
 // they are there.
 #![tactic(auto)]
 
-ghost use Rattle.std.specs.Prelude.{◌≡◌, ◌+◌, ◌≤◌, ◌<◌, length};
+ghost use Rattle.std.specs.Prelude.{◌≡◌, ◌+◌, ◌≤◌, length};
 ghost use Rattle.std.specs.Float.{binary32};
 ghost use Rattle.std.specs.Float.Ieee.{of_bits};
 ghost use Rattle.art.specs.Stores.{lent};
-ghost use Rattle.wire.specs.Saying.{Says};
 ghost use Rattle.commands.specs.Reading.{config_at, request_of, colour_of, threshold_of, background_at};
-ghost use Rattle.commands.specs.Taking.{words_of, There};
-ghost use Rattle.commands.specs.Telling.{open_told, ask_told, offer_told, withdraw_told, size_told, pixel_told, locate_told, told, Tells};
+ghost use Rattle.commands.specs.Telling.{open_told, ask_told, offer_told, withdraw_told, size_told, pixel_told, locate_told, Tells};
 
 use art::memory_rgba8_texture::{Image, Pixel};
 use coords::locate;
@@ -24,6 +22,8 @@ use records::layout::Layout;
 use records::texture_packer_config::Config;
 use wire::answers::Answer;
 use wire::{answers, fields, words};
+
+pub mod command;
 
 // An answer, and the layout that goes along.
 #[derive(Clone, Copy)]
@@ -55,28 +55,29 @@ fn config_at(script: &[u8], at: usize) -> Config
     }
 }
 
-fn open(script: &[u8], at: usize) -> Outcome
+pub fn open(script: &[u8], at: usize) -> Outcome
     requires { at + 48 ≤ length script.now }
     ensures { Tells (open_told script.now at) result }
 {
     let o = layouts::open(config_at(script, at));
-    let said = o.answer;
-    let answer = answers::opened(said);
-    let l = o.layout;
-    Outcome { answer, layout: l }
+    Outcome {
+        answer: answers::opened(o.answer),
+        layout: o.layout,
+    }
 }
 
-fn ask(script: &[u8], at: usize, l: Layout) -> Answer
+pub fn ask(script: &[u8], at: usize, l: Layout) -> Outcome
     requires { at + 16 ≤ length script.now }
-    ensures { Says (ask_told script.now at l).numbers result }
+    ensures { Tells (ask_told script.now at l) result }
 {
     let page = Page(words::word_at(script, at + 4));
     let w = words::word_at(script, at + 8);
     let h = words::word_at(script, at + 12);
-    answers::asked(multi_texture_packer::ask(l, page, Size { w, h }))
+    let answer = answers::asked(multi_texture_packer::ask(l, page, Size { w, h }));
+    Outcome { answer, layout: l }
 }
 
-fn offer<'a>(
+pub fn offer<'a>(
     script: &'a [u8],
     symbols: &'a [u8],
     wording: &'a [u8],
@@ -98,44 +99,46 @@ fn offer<'a>(
         h,
     };
     let o = multi_texture_packer::offer(l, symbols, wording, key, image);
-    let said = o.answer;
-    let answer = answers::offered(said);
-    let after = o.layout;
     Outcome {
-        answer,
-        layout: after,
+        answer: answers::offered(o.answer),
+        layout: o.layout,
     }
 }
 
-fn withdraw(l: Layout) -> Outcome
+pub fn withdraw(l: Layout) -> Outcome
     ensures { Tells (withdraw_told l) result }
 {
-    let o = multi_texture_packer::withdraw(l);
-    let said = o.answer;
-    let answer = answers::withdrawn(said);
-    let after = o.layout;
+    let gone = multi_texture_packer::withdraw(l);
     Outcome {
-        answer,
-        layout: after,
+        answer: answers::withdrawn(gone.answer),
+        layout: gone.layout,
     }
 }
 
-fn page_size(script: &[u8], at: usize, l: Layout) -> Answer
+pub fn page_size(script: &[u8], at: usize, l: Layout) -> Outcome
     requires { at + 8 ≤ length script.now }
-    ensures { Says (size_told script.now at l).numbers result }
+    ensures { Tells (size_told script.now at l) result }
 {
     let page = Page(words::word_at(script, at + 4));
-    answers::sized(layouts::page_size(l, page))
+    let answer = answers::sized(layouts::page_size(l, page));
+    Outcome { answer, layout: l }
 }
 
-fn pixel<'a>(script: &'a [u8], symbols: &'a [u8], wording: &'a [u8], at: usize, l: Layout) -> Answer
+pub fn pixel<'a>(
+    script: &'a [u8],
+    symbols: &'a [u8],
+    wording: &'a [u8],
+    at: usize,
+    l: Layout,
+) -> Outcome
     requires { at + 16 ≤ length script.now }
-    ensures { Says (pixel_told script.now at (lent symbols.now wording.now) l).numbers result }
+    ensures { Tells (pixel_told script.now at (lent symbols.now wording.now) l) result }
 {
     let page = Page(words::word_at(script, at + 4));
     let x = words::word_at(script, at + 8);
     let y = words::word_at(script, at + 12);
-    answers::looked(texture_packer::pixel(l, symbols, wording, page, x, y))
+    let answer = answers::looked(texture_packer::pixel(l, symbols, wording, page, x, y));
+    Outcome { answer, layout: l }
 }
 
 // The language makes no NaN of a pattern; every pattern of a NaN stands for the one that 0 / 0 gives.
@@ -153,44 +156,39 @@ fn number_of_bits(bits: u32) -> f32
 fn request_of(request: u32, bits: u32) -> Request
     ensures { result ≡ request_of request bits }
 {
-    if request == 0 {
-        return Request::Pixels;
+    match request {
+        0 => Request::Pixels,
+        1 => Request::Edges,
+        _ => Request::Inset(number_of_bits(bits)),
     }
-    if request == 1 {
-        return Request::Edges;
-    }
-    Request::Inset(number_of_bits(bits))
 }
 
-pub fn coordinates(script: &[u8], at: usize, l: Layout) -> Answer
+pub fn coordinates(script: &[u8], at: usize, l: Layout) -> Outcome
     requires { at + 16 ≤ length script.now }
-    ensures { Says (locate_told script.now at l).numbers result }
+    ensures { Tells (locate_told script.now at l) result }
 {
     let key = Key(words::word_at(script, at + 4));
     let request = words::word_at(script, at + 8);
     let bits = words::word_at(script, at + 12);
-    answers::located(locate::coordinates(l, key, request_of(request, bits)))
+    let answer = answers::located(locate::coordinates(l, key, request_of(request, bits)));
+    Outcome { answer, layout: l }
 }
 
 fn threshold_of(n: u32) -> Threshold
     ensures { result ≡ threshold_of n }
 {
-    if n < 256 {
-        return Threshold::AtMost(n as u8);
+    match u8::try_from(n) {
+        Ok(alpha) => Threshold::AtMost(alpha),
+        Err(_) => Threshold::Unset,
     }
-    Threshold::Unset
 }
 
 // The bytes of a word, the least first, are R G B A.
 fn colour_of(n: u32) -> Pixel
     ensures { result ≡ colour_of n }
 {
-    Pixel {
-        r: (n % 256) as u8,
-        g: (n / 256 % 256) as u8,
-        b: (n / 65536 % 256) as u8,
-        a: (n / 16777216) as u8,
-    }
+    let [r, g, b, a] = n.to_le_bytes();
+    Pixel { r, g, b, a }
 }
 
 // Four words: 0 for none or anything else for a colour, the colour, the threshold, the discard switch.
@@ -205,50 +203,4 @@ pub fn background_at(script: &[u8], at: usize) -> Background
     let threshold = threshold_of(words::word_at(script, at + 8));
     let discard = fields::is_on(words::word_at(script, at + 12));
     Background::Colour(colour, threshold, discard)
-}
-
-const WORD_COUNTS: [usize; 12] = [11, 3, 5, 0, 1, 3, 8, 10, 2, 3, 3, 1];
-
-// How many words a command takes.
-pub fn words_of(command: usize) -> usize
-    requires { command < 12 }
-    ensures { result ≡ words_of command }
-{
-    WORD_COUNTS[command]
-}
-
-fn unchanged(answer: Answer, l: Layout) -> Outcome
-    ensures { result ≡ record { answer = answer; layout = l } }
-{
-    Outcome { answer, layout: l }
-}
-
-// Commands 0 to 5.
-pub fn first_six<'a>(
-    script: &'a [u8],
-    symbols: &'a [u8],
-    wording: &'a [u8],
-    command: usize,
-    at: usize,
-    l: Layout,
-) -> Outcome
-    requires { (command < 6) × There script.now at (words_of command) }
-    ensures { Tells (told script.now at (lent symbols.now wording.now) l command) result }
-{
-    if command < 1 {
-        return open(script, at);
-    }
-    if command < 2 {
-        return unchanged(ask(script, at, l), l);
-    }
-    if command < 3 {
-        return offer(script, symbols, wording, at, l);
-    }
-    if command < 4 {
-        return withdraw(l);
-    }
-    if command < 5 {
-        return unchanged(page_size(script, at, l), l);
-    }
-    unchanged(pixel(script, symbols, wording, at, l), l)
 }

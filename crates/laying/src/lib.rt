@@ -3,95 +3,74 @@
 
 ghost use Rattle.std.specs.Prelude.{◌≡◌};
 ghost use Rattle.art.specs.Stores.{lent};
-ghost use Rattle.laying.specs.Laying.{goes_on, stop_of, offered_one, offering, wanted, laid_out};
+ghost use Rattle.laying.specs.Laying.{stop_of, offered_one, offering, wanted, laid_out};
 
+use art::memory_rgba8_texture::Stores;
 use job::reading::{Entry, Job};
 use layout::multi_texture_packer;
 use records::layout as layouts;
-use records::layout::{Layout, Opened};
+use records::layout::{Answered, Layout};
 use records::refusal::Refusal;
 use rules::multi_texture_packer::Offered;
 
+// Where a refusal ends it.
 #[derive(Clone, Copy)]
 pub enum Stop {
-    Nowhere,
     AtOpen(Refusal),
     // The place of the refused image among the job's.
     AtOffer(usize, Refusal),
 }
 
-#[derive(Clone, Copy)]
-pub struct Laid {
-    pub stop: Stop,
-    pub layout: Layout,
-}
+pub type Laid = Answered<Result<(), Stop>>;
 
-fn stop_of(k: usize, o: Offered) -> Stop
-    ensures { result ≡ stop_of k o }
+fn stop_of(k: usize, answer: Offered) -> Result<(), Stop>
+    ensures { result ≡ stop_of k answer }
 {
-    match o {
-        Offered::Placed(_, _, _) => Stop::Nowhere,
-        Offered::Refused(r) => Stop::AtOffer(k, r),
-    }
-}
-
-pub fn goes_on(s: Stop) -> bool
-    ensures { result ≡ goes_on s }
-{
-    match s {
-        Stop::Nowhere => true,
-        Stop::AtOpen(_) => false,
-        Stop::AtOffer(_, _) => false,
+    match answer {
+        Ok(_) => Ok(()),
+        Err(refusal) => Err(Stop::AtOffer(k, refusal)),
     }
 }
 
 // One image offered. A refused offer hands the layout back as it was.
-fn offer_one<'a>(l: Layout, symbols: &'a [u8], wording: &'a [u8], k: usize, e: Entry) -> Laid
-    ensures { result ≡ offered_one (lent symbols.now wording.now) k l e }
+#[tactic(auto, unfolding(crate::specs::Laying::offered_one))]
+fn offer_one(l: Layout, stores: Stores<'_>, k: usize, entry: Entry) -> Laid
+    ensures { result ≡ offered_one (lent stores.entry) k l entry }
 {
-    let image = e.image;
-    let o = multi_texture_packer::offer(l, symbols, wording, e.key, image);
-    let said = o.answer;
-    let stop = stop_of(k, said);
-    let after = o.layout;
-    Laid {
-        stop,
-        layout: after,
+    let offer = multi_texture_packer::offer(l, stores, entry.key, entry.image);
+    Answered {
+        answer: stop_of(k, offer.answer),
+        layout: offer.layout,
     }
 }
 
-fn offer_all<'a>(l: Layout, symbols: &'a [u8], wording: &'a [u8], j: Job) -> Laid
-    ensures { result ≡ offering (lent symbols.now wording.now) 0 l (wanted j) }
+fn offer_all(l: Layout, stores: Stores<'_>, j: Job) -> Laid
+    ensures { result ≡ offering (lent stores.entry) 0 l (wanted j) }
 {
-    let mut at = l;
-    let mut k: usize = 0;
-    while (k < j.count) & (k < 256) {
-        let e = j.entries[k];
-        let next = offer_one(at, symbols, wording, k, e);
-        let stop = next.stop;
-        if !goes_on(stop) {
+    let mut layout = l;
+    for (k, entry) in j.entries.iter().take(j.count).enumerate() {
+        let next = offer_one(layout, stores, k, *entry);
+        if next.answer.is_err() {
             return next;
         }
-        at = next.layout;
-        k += 1;
+        layout = next.layout;
     }
-    Laid {
-        stop: Stop::Nowhere,
-        layout: at,
+    Answered {
+        answer: Ok(()),
+        layout,
     }
 }
 
-pub fn lay_out<'a>(symbols: &'a [u8], wording: &'a [u8], j: Job) -> Laid
-    ensures { result ≡ laid_out (lent symbols.now wording.now) j }
+#[tactic(auto, unfolding(crate::specs::Laying::laid_out))]
+pub fn lay_out(stores: Stores<'_>, j: Job) -> Laid
+    ensures { result ≡ laid_out (lent stores.entry) j }
 {
-    let o = layouts::open(j.config);
-    let l = o.layout;
-    let said = o.answer;
-    match said {
-        Opened::Refused(r) => Laid {
-            stop: Stop::AtOpen(r),
-            layout: l,
+    let opening = layouts::open(j.config);
+    match opening.answer {
+        Err(refusal) => Answered {
+            answer: Err(Stop::AtOpen(refusal)),
+            layout: opening.layout,
         },
-        Opened::Done => offer_all(l, symbols, wording, j),
+        Ok(()) => offer_all(opening.layout, stores, j),
     }
 }

@@ -1,26 +1,26 @@
 // The operations that ask the placing rule, after multi_texture_packer.rs of texture_packer: ask, offer, withdraw. Each takes any layout, numbers
 // and bytes.
-ghost use Rattle.std.specs.Prelude.{◌≡◌, true, List, ◌≤◌, ◌<◌};
+ghost use Rattle.std.specs.Prelude.{◌≡◌, true, List, ◌≤◌, ◌<◌, ◌-◌, get_or, IfOk};
 ghost use Rattle.geometry.specs.Placing.{is_found};
 ghost use Rattle.art.specs.Stores.{lent};
-ghost use Rattle.records.specs.Settings.{in_bounds};
+ghost use Rattle.records.specs.Settings.{in_bounds, blank_record};
 ghost use Rattle.records.specs.Refusals.{first_refusal};
 ghost use Rattle.records.specs.declared.frame.Record.{Record};
 ghost use Rattle.rules.specs.Placing.{spot_on, cells_on};
-ghost use Rattle.rules.specs.Operations.{asked, ask_answer, asked_numbers, offered, offered_numbers, withdrawn, withdrawn_numbers, without_latest};
+ghost use Rattle.rules.specs.Operations.{asked, ask_answer, asked_numbers, offered, offered_numbers, withdraw_refusal, withdrawn, withdrawn_numbers, without_latest};
 ghost use Rattle.faithful.specs.Replay.{Skies};
-ghost use Rattle.layout.specs.Rest.{ask_rest, latest_gone};
+ghost use Rattle.offers.specs.Offers.{unless};
+ghost use Rattle.layout.specs.Rest.{ask_rest};
 
-use art::memory_rgba8_texture::Image;
-use faithful::trust::Trust;
+use art::memory_rgba8_texture::{Image, Stores};
 use faithful::{placing, trust};
 use geometry::rect::Size;
 use records::frame;
 use records::frame::{Key, Page};
-use records::layout::Layout;
+use records::layout::{Answered, Layout};
 use records::refusal::Refusal;
 use records::texture_packer_config::Config;
-use rules::multi_texture_packer::{Asked, Offered, Offering, Withdrawing, Withdrawn};
+use rules::multi_texture_packer::{Asked, Offering, Withdrawing, Withdrawn};
 
 // The checks of ask past 2 and 3, and the page's answer.
 fn ask_on<'a>(
@@ -38,18 +38,15 @@ fn ask_on<'a>(
         result ≡ ask_answer (is_found (spot_on c (cells_on c rs page.0) size)) (first_refusal (ask_rest rs page size)) }
 {
     if offers::bad_size(size.w, size.h) {
-        return Asked::Refused(Refusal::BadSize);
+        return Err(Refusal::BadSize);
     }
     let p = page.0 as usize;
     if pages <= p {
-        return Asked::Refused(Refusal::NoSuchPage);
+        return Err(Refusal::NoSuchPage);
     }
     let area = placing::canvas_of(c);
     let cell = placing::cell_size(c, size);
-    if pages::can_pack_on(xs, ys, ns, p, area, c.rotation, cell) {
-        return Asked::Yes;
-    }
-    Asked::No
+    Ok(pages::can_pack_on(xs, ys, ns, p, area, c.rotation, cell))
 }
 
 // ask: 2 3 4 11
@@ -60,70 +57,49 @@ pub fn ask(l: Layout, page: Page, size: Size) -> Asked
     let mut xs = [0u32; 2064];
     let mut ys = [0u32; 2064];
     let mut ns = [0usize; 8];
-    match trust::trusted(l, &mut xs, &mut ys, &mut ns) {
-        Trust::Unformed => Asked::Refused(Refusal::NotWellFormed),
-        Trust::Unfaithful => Asked::Refused(Refusal::NotFaithful),
-        Trust::StandsOn(pages) => ask_on(&xs, &ys, &ns, l.config, pages, page, size),
-    }
+    let pages = trust::trusted(l, &mut xs, &mut ys, &mut ns)?;
+    ask_on(&xs, &ys, &ns, l.config, pages, page, size)
 }
 
 // offer: 2 3 4 5 6 7 8 9 10
-pub fn offer<'a>(
-    l: Layout,
-    symbols: &'a [u8],
-    wording: &'a [u8],
-    key: Key,
-    image: Image,
-) -> Offering
-    ensures value { result ≡ offered l (lent symbols.now wording.now) key image }
-    ensures answer_value { offered_numbers result.answer ≡ offered_numbers (offered l (lent symbols.now wording.now) key image).answer }
+pub fn offer(l: Layout, stores: Stores<'_>, key: Key, image: Image) -> Offering
+    ensures value { result ≡ offered l (lent stores.entry) key image }
+    ensures answer_value { offered_numbers result.answer ≡ offered_numbers (offered l (lent stores.entry) key image).answer }
 {
     let mut xs = [0u32; 2064];
     let mut ys = [0u32; 2064];
     let mut ns = [0usize; 8];
     match trust::trusted(l, &mut xs, &mut ys, &mut ns) {
-        Trust::Unformed => Offering {
-            answer: Offered::Refused(Refusal::NotWellFormed),
+        Ok(pages) => { offers::offer_on(&mut xs, &mut ys, &mut ns, l, pages, stores, key, image) }
+        Err(refusal) => Answered {
+            answer: Err(refusal),
             layout: l,
         },
-        Trust::Unfaithful => Offering {
-            answer: Offered::Refused(Refusal::NotFaithful),
-            layout: l,
-        },
-        Trust::StandsOn(pages) => offers::offer_on(
-            &mut xs, &mut ys, &mut ns, l, pages, symbols, wording, key, image,
-        ),
     }
 }
 
-fn without_latest(l: Layout) -> Layout
+fn without_latest(mut l: Layout) -> Layout
     requires { (0 < l.count) × (l.count ≤ 256) }
     ensures { result ≡ without_latest l }
 {
     let at = l.count - 1;
-    let mut out = l;
-    out.records[at] = frame::blank_record();
-    out.count = at;
-    out
+    l.records[at] = frame::blank_record();
+    l.count = at;
+    l
 }
 
-fn withdraw_latest(l: Layout) -> Withdrawing
-    requires { l.count ≤ 256 }
-    ensures { result ≡ latest_gone l }
+// The checks of a withdrawal, and the key of the record that it takes away.
+fn latest_key(l: Layout) -> Withdrawn
+    ensures is { result ≡ unless (get_or l.records (l.count - 1) blank_record).key (withdraw_refusal l) }
+    ensures some { IfOk result (λ k. (0 < l.count) × (l.count ≤ 256)) }
 {
-    if l.count == 0 {
-        return Withdrawing {
-            answer: Withdrawn::Refused(Refusal::NothingStands),
-            layout: l,
-        };
-    }
-    let at = l.count - 1;
-    let r = l.records[at];
-    let key = r.key;
-    Withdrawing {
-        answer: Withdrawn::Gone(key),
-        layout: without_latest(l),
-    }
+    let mut xs = [0u32; 2064];
+    let mut ys = [0u32; 2064];
+    let mut ns = [0usize; 8];
+    trust::trusted(l, &mut xs, &mut ys, &mut ns)?;
+    let standing = &l.records[..l.count];
+    let latest = standing.last().ok_or(Refusal::NothingStands)?;
+    Ok(latest.key)
 }
 
 // withdraw latest: 2 3 18
@@ -131,18 +107,14 @@ pub fn withdraw(l: Layout) -> Withdrawing
     ensures value { result ≡ withdrawn l }
     ensures answer_value { withdrawn_numbers result.answer ≡ withdrawn_numbers (withdrawn l).answer }
 {
-    let mut xs = [0u32; 2064];
-    let mut ys = [0u32; 2064];
-    let mut ns = [0usize; 8];
-    match trust::trusted(l, &mut xs, &mut ys, &mut ns) {
-        Trust::Unformed => Withdrawing {
-            answer: Withdrawn::Refused(Refusal::NotWellFormed),
+    match latest_key(l) {
+        Ok(key) => Answered {
+            answer: Ok(key),
+            layout: without_latest(l),
+        },
+        Err(refusal) => Answered {
+            answer: Err(refusal),
             layout: l,
         },
-        Trust::Unfaithful => Withdrawing {
-            answer: Withdrawn::Refused(Refusal::NotFaithful),
-            layout: l,
-        },
-        Trust::StandsOn(_) => withdraw_latest(l),
     }
 }

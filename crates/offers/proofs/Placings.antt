@@ -9,8 +9,7 @@ use borrow.Author.Tests.{lt-ltb, le-ltb}
 use Rattle.geometry.specs.declared.rect.Rect.{Rect}
 use Rattle.geometry.specs.declared.rect.Size.{Size}
 use Rattle.geometry.specs.declared.spot.Spot.{Spot}
-use Rattle.geometry.specs.declared.spot.Found.{Found}
-use Rattle.geometry.specs.declared.spot.Found.TheVariants.{Nothing, At}
+use Rattle.std.specs.Prelude.{Option, None, Some, Result, Ok, Err}
 use Rattle.records.specs.declared.texture_packer_config.Config.{Config}
 use Rattle.records.specs.declared.frame.Record.{Record}
 use Rattle.geometry.specs.Placing.{height, spot_for, grown}
@@ -24,13 +23,13 @@ use Rattle.rules.specs.Placing.{canvas, cell_size, spot_on, cell_of, cells_on, p
 use Rattle.faithful.specs.Replay.{Near, stood}
 use Rattle.offers.specs.Offers.{outcome, Stepped}
 use Rattle.rules.specs.declared.placing.Art.{Art}
-use Rattle.faithful.specs.declared.placing.Outcome.{Outcome}
-use Rattle.faithful.specs.declared.placing.Outcome.TheVariants.{Full, Stood}
+use Rattle.records.specs.declared.refusal.Refusal.{Refusal}
+use Rattle.records.specs.declared.refusal.Refusal.TheVariants.{PageLimit}
 use Rattle.rules.proofs.Pages.{cells-here, cells_other, cell_given}
 use Rattle.faithful.proofs.Replays.{length_snoc}
 use Rattle.faithful.proofs.Spots.{stood-none}
 
-pub near : (c : Config) (cells : List Rect) (size area cell : Size) (f : Found) → in_bounds c ≡ true → area ≡ canvas c → f ≡ spot_for (height cells) area c.rotation cell → Near f
+pub near : (c : Config) (cells : List Rect) (size area cell : Size) (f : Option Spot) → in_bounds c ≡ true → area ≡ canvas c → f ≡ spot_for (height cells) area c.rotation cell → Near f
 unfolding canvas
 near c cells size area cell f b ea e k q =
     let h = chosen_fits (height cells) area c.rotation cell k (sym e ∙ q) in
@@ -40,25 +39,25 @@ near c cells size area cell f b ea e k q =
     let u = bounded c b in
     (omega (arith, i.across, u.wide-few), omega (arith, i.down, u.tall-few))
 
-stood-is : (c : Config) (a : Art) (p : ℕ) (k : Spot) (r : Record) → stood (record_for c a p (At k)) ≡ Stood r → record_at c a p k ≡ r
+stood-is : (c : Config) (a : Art) (p : ℕ) (k : Spot) (r : Record) → stood (record_for c a p (Some k)) ≡ Ok r → record_at c a p k ≡ r
 unfolding record_for
 stood-is c a p k r q = injective (record_at c a p k) r q
   where
-    injective : (x y : Record) → Stood x ≡ Stood y → x ≡ y
+    injective : (x y : Record) → ◌≡◌ {A = Result Record Refusal} (Ok x) (Ok y) → x ≡ y
     injective x y e = cc
 
 module _ (c : Config) (rs : List Record) (a : Art) (p : ℕ) (xs ys ns : List ℕ) (e : p ≡ page_for c rs a.whole) where
-  pub step-full : c.pages ≤ p → Stepped c rs a Full xs ys ns
+  pub step-full : c.pages ≤ p → Stepped c rs a (Err PageLimit) xs ys ns
   unfolding outcome
   step-full l =
       let m : c.pages ≤ page_for c rs a.whole = omega arith in
       record {
         is = rw (le-ltb _ _ m);
-        after = λ r q. let z : ◌≡◌ {A = ℕ} 0 1 = cc in absurd (omega arith);
+        after = λ r q. absurd (cc);
       }
 
-  after-at : (k : Spot) (r : Record) → At k ≡ spot_on c (cells_on c rs p) (size_of a.kept) → record_at c a p k ≡ r
-      → (cells_on c (rs ++ r ∷ []) p ≡ grown (cells_on c rs p) (At k)) × (r.page.0 ≡ p)
+  after-at : (k : Spot) (r : Record) → Some k ≡ spot_on c (cells_on c rs p) (size_of a.kept) → record_at c a p k ≡ r
+      → (cells_on c (rs ++ r ∷ []) p ≡ grown (cells_on c rs p) (Some k)) × (r.page.0 ≡ p)
   unfolding spot_on grown record_at
   after-at k r f q =
       let pg : r.page.0 ≡ p = sym (ap (λ (z : Record). z.page.0) q) in (
@@ -67,29 +66,29 @@ module _ (c : Config) (rs : List Record) (a : Art) (p : ℕ) (xs ys ns : List �
         pg,
       )
 
-  pub step-here : (f : Found) (o : Outcome) → p < c.pages → PutOn (canvas c) c.rotation (cell_size c (size_of a.kept)) p (length rs) (cells_on c rs) f xs ys ns
+  pub step-here : (f : Option Spot) (o : Result Record Refusal) → p < c.pages → PutOn (canvas c) c.rotation (cell_size c (size_of a.kept)) p (length rs) (cells_on c rs) f xs ys ns
       → o ≡ stood (record_for c a p f) → Stepped c rs a o xs ys ns
   unfolding outcome placed spot_on
   step-here f o l put s =
       let m : page_for c rs a.whole < c.pages = omega arith in
       record {
-        is = s ∙ ap (λ (z : Found). stood (record_for c a p z)) put.found
+        is = s ∙ ap (λ (z : Option Spot). stood (record_for c a p z)) put.found
             ∙ ap (λ (z : ℕ). stood (record_for c a z (spot_on c (cells_on c rs z) (size_of a.kept)))) e
             ∙ rw (lt-ltb _ _ m);
         after = λ r q. go f put.found (sym s ∙ q) put;
       }
     where
-      go : {r : Record} (g : Found) → g ≡ spot_on c (cells_on c rs p) (size_of a.kept) → stood (record_for c a p g) ≡ Stood r
+      go : {r : Record} (g : Option Spot) → g ≡ spot_on c (cells_on c rs p) (size_of a.kept) → stood (record_for c a p g) ≡ Ok r
           → PutOn (canvas c) c.rotation (cell_size c (size_of a.kept)) p (length rs) (cells_on c rs) g xs ys ns
           → Stands (canvas c).w (cells_on c (rs ++ r ∷ [])) (length (rs ++ r ∷ [])) xs ys ns
-      go {r} Nothing h q pt = absurd (never r q)
+      go None h q pt = absurd (never q)
         where
-          never : (r : Record) → stood (record_for c a p Nothing) ≡ Stood r → ⊥
-          never r q = let t = stood-none c a p Nothing refl in let z : ◌≡◌ {A = ℕ} 0 1 = cc in omega arith
-      go {r} (At k) h q pt =
+          never : {r : Record} → stood (record_for c a p None) ≡ Ok r → ⊥
+          never q = let t = stood-none c a p None refl in let z : ◌≡◌ {A = ℕ} 0 1 = cc in omega arith
+      go {r} (Some k) h q pt =
           let w = after-at k r h (same k r q) in
           subst (λ (n : ℕ). Stands (canvas c).w (cells_on c (rs ++ r ∷ [])) n xs ys ns) (sym (length_snoc rs r))
           (pt.stands (cells_on c (rs ++ r ∷ [])) w.0 (λ j n. cells_other c rs r j (λ z. n (sym z ∙ w.1))))
         where
-          same : (k : Spot) (r : Record) → stood (record_for c a p (At k)) ≡ Stood r → record_at c a p k ≡ r
+          same : (k : Spot) (r : Record) → stood (record_for c a p (Some k)) ≡ Ok r → record_at c a p k ≡ r
           same k r q = stood-is c a p k r q

@@ -1,20 +1,21 @@
 -- The row of offer past 2 and 3 as the code goes through it. Assumes nothing.
-use Prim.Native.Nat.{ℕ, ◌≤◌, ◌<◌}
+use Rattle.std.specs.Prelude.{Result, Ok, Err, IfOk}
+use Prim.Native.Nat.{◌≤◌, ◌<◌}
 use mathlib.Core.Path.{◌≡◌, refl, sym, ap, ◌∙◌}
 use mathlib.Core.Bool.{Bool, true, false, cond, ◌&&◌}
-use mathlib.Core.List.{List}
+use mathlib.Core.List.{List, [], ◌∷◌, ◌++◌}
 use mathlib.Core.Option.{Option, none, some}
 use native.Mathlib.Omega.{arith}
-use native.Mathlib.Decide.{dec_le}
+use native.Mathlib.Decide.{dec_le, dec_lt}
 use lib.Dec.{leb, ltb, eqb}
-use borrow.Author.Tests.{le-leb, lt-leb, eq-eqb, ne_eqb, ltb-true, ltb-false}
+use borrow.Author.Tests.{le-leb, lt-leb, eq-eqb, ne_eqb, lt-ltb, le-ltb}
 use Rattle.geometry.specs.Words.{any}
 use Rattle.geometry.specs.declared.rect.Rect.{Rect}
 use Rattle.geometry.proofs.Words.{both, and_no_left, and_no_right}
 use Rattle.art.specs.Stores.{Stores, runs_past}
 use Rattle.art.specs.Trimming.{all_clear, trim_box}
 use Rattle.art.specs.declared.memory_rgba8_texture.Image.{Image}
-use Rattle.records.specs.Refusals.{first_refusal}
+use Rattle.records.specs.Refusals.{Row, first_refusal}
 use Rattle.records.specs.Records.{size_of}
 use Rattle.records.specs.Layouts.{standing, has_key, page_count}
 use Rattle.records.specs.declared.texture_packer_config.Config.{Config}
@@ -25,24 +26,13 @@ use Rattle.records.specs.declared.refusal.Refusal.{Refusal}
 use Rattle.records.specs.declared.refusal.Refusal.TheVariants.{BadSize, PastStore, KeyStands, AllClear, TooLarge, ImageLimit, PageLimit}
 use Rattle.records.proofs.Rows.{hit, skipped, none_left}
 use Rattle.rules.specs.Placing.{page_for, placed}
-use Rattle.rules.specs.Operations.{bad_size, art_for, too_large, pages_full, offer_answer, with_record}
+use Rattle.rules.specs.Operations.{bad_size, art_for, too_large, pages_full}
 use Rattle.rules.specs.declared.placing.Art.{Art}
-use Rattle.rules.specs.declared.multi_texture_packer.Offered.TheVariants.{Placed, Refused as OfferRefused}
-use Rattle.rules.specs.declared.multi_texture_packer.Offering.{Offering}
 use Rattle.rules.proofs.Pages.{page-le}
 use Rattle.faithful.specs.Replay.{stood}
-use Rattle.faithful.specs.declared.placing.Outcome.TheVariants.{Full}
-use Rattle.offers.specs.Offers.{outcome, room_rest, offer_rest}
+use Rattle.offers.specs.Offers.{outcome, room_rest, offer_rest, art_rest, unless, record_answer}
 
 -- ## offer, past 7
-
-refuse : (l : Layout) (pl : Option Record) (n : Refusal) → record { answer = OfferRefused n; layout = l } ≡ offer_answer l pl (some n)
-refuse l none n = refl
-refuse l (some r) n = refl
-
-pub refused : (l : Layout) (pl : Option Record) (row : List (Bool × Refusal)) (n : Refusal) → first_refusal row ≡ some n
-    → record { answer = OfferRefused n; layout = l } ≡ offer_answer l pl (first_refusal row)
-refused l pl row n e = refuse l pl n ∙ ap (offer_answer l pl) (sym e)
 
 module _ (l : Layout) (a : Art) where
   pub room_large : (b : Bool) → b ≡ too_large l.config (size_of a.kept) → b ≡ true → first_refusal (room_rest l a) ≡ some TooLarge
@@ -64,94 +54,134 @@ module _ (l : Layout) (a : Art) where
 
 -- 10 exactly where the step finds no page
 module _ (c : Config) (rs : List Record) (a : Art) (few : page_count rs ≤ c.pages) where
-  pub full_pages : outcome c rs a ≡ Full → pages_full c rs a.whole ≡ true
-  unfolding outcome pages_full
-  full_pages e = go (ltb (page_for c rs a.whole) c.pages) refl e
+  pub full_pages : c.pages ≤ page_for c rs a.whole → pages_full c rs a.whole ≡ true
+  unfolding pages_full
+  full_pages n =
+      let m = page-le c rs a.whole in
+      both (eq-eqb (page_for c rs a.whole) (page_count rs) (omega arith)) (le-leb c.pages (page_count rs) (omega arith))
+
+  pub open_pages : page_for c rs a.whole < c.pages → pages_full c rs a.whole ≡ false
+  unfolding pages_full
+  open_pages h = room (dec_le c.pages (page_count rs))
     where
-      least : page_for c rs a.whole ≤ page_count rs
-      least = page-le c rs a.whole
+      room : Dec (c.pages ≤ page_count rs) → (eqb (page_for c rs a.whole) (page_count rs) && leb c.pages (page_count rs)) ≡ false
+      room (yes g) = and_no_left (eqb (page_for c rs a.whole) (page_count rs)) (leb c.pages (page_count rs)) (ne_eqb (page_for c rs a.whole) (page_count rs) (λ z. omega arith))
+      room (no g) = and_no_right (eqb (page_for c rs a.whole) (page_count rs)) (leb c.pages (page_count rs)) (lt-leb c.pages (page_count rs) (omega arith))
 
-      go : (b : Bool) → ltb (page_for c rs a.whole) c.pages ≡ b → cond b (stood (placed c rs a)) Full ≡ Full
-          → (eqb (page_for c rs a.whole) (page_count rs) && leb c.pages (page_count rs)) ≡ true
-      go true h q = absurd (never (placed c rs a) q)
-        where
-          never : (o : Option Record) → stood o ≡ Full → ⊥
-          never none z = let y : ◌≡◌ {A = ℕ} 0 1 = cc in omega arith
-          never (some r) z = let y : ◌≡◌ {A = ℕ} 0 1 = cc in omega arith
-      go false h q =
-          let n = ltb-false (page_for c rs a.whole) c.pages h in
-          let m = least in
-          both (eq-eqb (page_for c rs a.whole) (page_count rs) (omega arith)) (le-leb c.pages (page_count rs) (omega arith))
+-- ## what is answered
 
-  pub open_pages : (o : Option Record) → outcome c rs a ≡ stood o → (pages_full c rs a.whole ≡ false) × (placed c rs a ≡ o)
-  unfolding outcome pages_full
-  open_pages o e = go (ltb (page_for c rs a.whole) c.pages) refl e
-    where
-      tell : (p q : Option Record) → stood p ≡ stood q → p ≡ q
-      tell none none z = refl
-      tell none (some r) z = let y : ◌≡◌ {A = ℕ} 0 1 = cc in absurd (omega arith)
-      tell (some r) none z = let y : ◌≡◌ {A = ℕ} 0 1 = cc in absurd (omega arith)
-      tell (some r) (some q) z = let w : r ≡ q = cc in ap some w
+pub refused : (pl : Option Record) (row : Row) (n : Refusal) → first_refusal row ≡ some n → Err n ≡ record_answer pl (first_refusal row)
+refused pl row n e = go pl ∙ ap (record_answer pl) (sym e)
+  where
+    go : (pl : Option Record) → Err n ≡ record_answer pl (some n)
+    go none = refl
+    go (some r) = refl
 
-      never : (p : Option Record) → Full ≡ stood p → ⊥
-      never none z = let y : ◌≡◌ {A = ℕ} 0 1 = cc in omega arith
-      never (some r) z = let y : ◌≡◌ {A = ℕ} 0 1 = cc in omega arith
+pub placed-answer : (pl : Option Record) (row : Row) → first_refusal row ≡ none → stood pl ≡ record_answer pl (first_refusal row)
+placed-answer pl row e = go pl ∙ ap (record_answer pl) (sym e)
+  where
+    go : (pl : Option Record) → stood pl ≡ record_answer pl none
+    go none = refl
+    go (some r) = refl
 
-      go : (b : Bool) → ltb (page_for c rs a.whole) c.pages ≡ b → cond b (stood (placed c rs a)) Full ≡ stood o
-          → ((eqb (page_for c rs a.whole) (page_count rs) && leb c.pages (page_count rs)) ≡ false) × (placed c rs a ≡ o)
-      go true h q = (room (ltb-true (page_for c rs a.whole) c.pages h) (dec_le c.pages (page_count rs)), tell (placed c rs a) o q)
-        where
-          room : page_for c rs a.whole < c.pages → Dec (c.pages ≤ page_count rs) → (eqb (page_for c rs a.whole) (page_count rs) && leb c.pages (page_count rs)) ≡ false
-          room l (yes g) = and_no_left (eqb (page_for c rs a.whole) (page_count rs)) (leb c.pages (page_count rs)) (ne_eqb (page_for c rs a.whole) (page_count rs) (λ z. omega arith))
-          room l (no g) = and_no_right (eqb (page_for c rs a.whole) (page_count rs)) (leb c.pages (page_count rs)) (lt-leb c.pages (page_count rs) (omega arith))
-      go false h q = absurd (never o q)
+-- the step, where 8 and 9 do not hold
+pub step-answer : (l : Layout) (a : Art) (b : Bool) (o : Result Record Refusal) → page_count (standing l) ≤ l.config.pages → b ≡ too_large l.config (size_of a.kept) → b ≡ false
+    → l.count < l.config.images → o ≡ outcome l.config (standing l) a → o ≡ record_answer (placed l.config (standing l) a) (first_refusal (room_rest l a))
+unfolding outcome
+step-answer l a b o few e f h q = q ∙ go (dec_lt (page_for l.config (standing l) a.whole) l.config.pages)
+  where
+    go : Dec (page_for l.config (standing l) a.whole < l.config.pages)
+        → cond (ltb (page_for l.config (standing l) a.whole) l.config.pages) (stood (placed l.config (standing l) a)) (Err PageLimit)
+        ≡ record_answer (placed l.config (standing l) a) (first_refusal (room_rest l a))
+    go (yes y) = rw (lt-ltb _ _ y) (placed-answer _ _ (room-none l a b e f h (open_pages l.config (standing l) a few y)))
+    go (no n) =
+        let m : l.config.pages ≤ page_for l.config (standing l) a.whole = omega arith in
+        rw (le-ltb _ _ m) (refused _ _ PageLimit (room_pages l a b e f h (full_pages l.config (standing l) a few m)))
 
-pub placed-answer : (l n : Layout) (pl : Option Record) (row : List (Bool × Refusal)) (r : Record) → n ≡ with_record l r → first_refusal row ≡ none → pl ≡ some r
-    → record { answer = Placed r.page r.frame r.turn; layout = n } ≡ offer_answer l pl (first_refusal row)
-placed-answer l n pl row r en e p =
-    (λ i. record { answer = Placed r.page r.frame r.turn; layout = en i })
-    ∙ ap (λ (o : Option Refusal). offer_answer l (some r) o) (sym e)
-    ∙ ap (λ (o : Option Record). offer_answer l o (first_refusal row)) (sym p)
+pub on-ok : {A P : Type 0} (r : Result A Refusal) → P → IfOk r (λ x. P)
+on-ok (Ok x) p = p
+on-ok (Err n) p = tt
 
-pub nowhere-answer : (l : Layout) (pl : Option Record) (row : List (Bool × Refusal)) → first_refusal row ≡ none → pl ≡ none
-    → record { answer = OfferRefused TooLarge; layout = l } ≡ offer_answer l pl (first_refusal row)
-nowhere-answer l pl row e p = ap (λ (o : Option Refusal). offer_answer l none o) (sym e) ∙ ap (λ (o : Option Record). offer_answer l o (first_refusal row)) (sym p)
+-- a row that goes on after its first part
+pub first_of_part : (as' bs : Row) (n : Refusal) → first_refusal as' ≡ some n → first_refusal (as' ++ bs) ≡ some n
+unfolding first_refusal
+first_of_part [] bs n e = absurd (cc)
+first_of_part (c ∷ cs) bs n e = go c.0 e (first_of_part cs bs n)
+  where
+    go : (t : Bool) → cond t (some c.1) (first_refusal cs) ≡ some n → (first_refusal cs ≡ some n → first_refusal (cs ++ bs) ≡ some n)
+        → cond t (some c.1) (first_refusal (cs ++ bs)) ≡ some n
+    go true q rest = q
+    go false q rest = rest q
+
+pub past_part : (as' bs : Row) → first_refusal as' ≡ none → first_refusal (as' ++ bs) ≡ first_refusal bs
+unfolding first_refusal
+past_part [] bs e = refl
+past_part (c ∷ cs) bs e = go c.0 e (past_part cs bs)
+  where
+    go : (t : Bool) → cond t (some c.1) (first_refusal cs) ≡ none → (first_refusal cs ≡ none → first_refusal (cs ++ bs) ≡ first_refusal bs)
+        → cond t (some c.1) (first_refusal (cs ++ bs)) ≡ first_refusal bs
+    go true q rest = absurd (cc)
+    go false q rest = rest q
+
+module _ {A : Type 0} where
+  pub unless-ok : (x a : A) (o : Option Refusal) → Ok a ≡ unless x o → (a ≡ x) × (o ≡ none)
+  unless-ok x a none e = ((cc), refl)
+  unless-ok x a (some n) e = absurd (cc)
+
+  pub unless-err : (x : A) (o : Option Refusal) (n : Refusal) → Err n ≡ unless x o → o ≡ some n
+  unless-err x none n e = absurd (cc)
+  unless-err x (some m) n e = let s : m ≡ n = cc in ap some s
+
+  pub refuses : (x : A) (row : Row) (n : Refusal) → first_refusal row ≡ some n → Err n ≡ unless x (first_refusal row)
+  refuses x row n e = ap (unless x) (sym e)
 
 -- ## offer, from 4 on
-
-module _ (l : Layout) (s : Stores) (k : Key) (i : Image) where
-  pub rest-size : bad_size i.w i.h ≡ true → first_refusal (offer_rest l s k i) ≡ some BadSize
-  unfolding offer_rest
-  rest-size t = hit _ BadSize _ t
-
-  module _ (sz : bad_size i.w i.h ≡ false) where
-    pub rest-store : runs_past s i ≡ true → first_refusal (offer_rest l s k i) ≡ some PastStore
-    unfolding offer_rest
-    rest-store t = skipped _ BadSize _ sz ∙ hit _ PastStore _ t
-
-    module _ (st : runs_past s i ≡ false) where
-      pub rest-key : any (has_key k) (standing l) ≡ true → first_refusal (offer_rest l s k i) ≡ some KeyStands
-      unfolding offer_rest
-      rest-key t = skipped _ BadSize _ sz ∙ skipped _ PastStore _ st ∙ hit _ KeyStands _ t
-
-      module _ (ky : any (has_key k) (standing l) ≡ false) where
-        pub rest-clear : (l.config.trim && all_clear s i) ≡ true → first_refusal (offer_rest l s k i) ≡ some AllClear
-        unfolding offer_rest
-        rest-clear t = skipped _ BadSize _ sz ∙ skipped _ PastStore _ st ∙ skipped _ KeyStands _ ky ∙ hit _ AllClear _ t
-
-        rest-room : (l.config.trim && all_clear s i) ≡ false → first_refusal (room_rest l (art_for l.config s k i)) ≡ first_refusal (offer_rest l s k i)
-        unfolding offer_rest
-        rest-room t = sym (skipped _ BadSize _ sz ∙ skipped _ PastStore _ st ∙ skipped _ KeyStands _ ky ∙ skipped _ AllClear _ t)
-
-        -- past 7, for the art as the code makes it
-        pub rest-made : (r : Offering) (a : Art) → a ≡ art_for l.config s k i → (l.config.trim && all_clear s i) ≡ false
-            → r ≡ offer_answer l (placed l.config (standing l) a) (first_refusal (room_rest l a))
-            → r ≡ offer_answer l (placed l.config (standing l) (art_for l.config s k i)) (first_refusal (offer_rest l s k i))
-        rest-made r a ea t e =
-            e ∙ ap (λ (z : Art). offer_answer l (placed l.config (standing l) z) (first_refusal (room_rest l z))) ea
-            ∙ ap (offer_answer l (placed l.config (standing l) (art_for l.config s k i))) (rest-room t)
 
 pub art_made : (c : Config) (s : Stores) (key : Key) (i : Image) (k : Rect) → k ≡ trim_box c.trim s i
     → record { key = key; store = i.store; offset = i.offset; whole = record { w = i.w; h = i.h }; kept = k } ≡ art_for c s key i
 unfolding art_for
 art_made c s key i k e = λ j. record { key = key; store = i.store; offset = i.offset; whole = record { w = i.w; h = i.h }; kept = e j }
+
+module _ (l : Layout) (s : Stores) (k : Key) (i : Image) where
+  pub rest-size : bad_size i.w i.h ≡ true → first_refusal (art_rest l s k i) ≡ some BadSize
+  unfolding art_rest
+  rest-size t = hit _ BadSize _ t
+
+  module _ (sz : bad_size i.w i.h ≡ false) where
+    pub rest-store : runs_past s i ≡ true → first_refusal (art_rest l s k i) ≡ some PastStore
+    unfolding art_rest
+    rest-store t = skipped _ BadSize _ sz ∙ hit _ PastStore _ t
+
+    module _ (st : runs_past s i ≡ false) where
+      pub rest-key : any (has_key k) (standing l) ≡ true → first_refusal (art_rest l s k i) ≡ some KeyStands
+      unfolding art_rest
+      rest-key t = skipped _ BadSize _ sz ∙ skipped _ PastStore _ st ∙ hit _ KeyStands _ t
+
+      module _ (ky : any (has_key k) (standing l) ≡ false) where
+        pub rest-clear : (l.config.trim && all_clear s i) ≡ true → first_refusal (art_rest l s k i) ≡ some AllClear
+        unfolding art_rest
+        rest-clear t = skipped _ BadSize _ sz ∙ skipped _ PastStore _ st ∙ skipped _ KeyStands _ ky ∙ hit _ AllClear _ t
+
+        pub rest-art : (k' : Rect) → (l.config.trim && all_clear s i) ≡ false → k' ≡ trim_box l.config.trim s i
+            → Ok (record { key = k; store = i.store; offset = i.offset; whole = record { w = i.w; h = i.h }; kept = k' }) ≡ unless (art_for l.config s k i) (first_refusal (art_rest l s k i))
+        unfolding art_rest
+        rest-art k' t e =
+            ap Ok (art_made l.config s k i k' e)
+            ∙ ap (unless (art_for l.config s k i)) (sym (skipped _ BadSize _ sz ∙ skipped _ PastStore _ st ∙ skipped _ KeyStands _ ky ∙ skipped _ AllClear _ t ∙ none_left))
+
+  -- the image refuses, or the row goes on with the art
+  pub rest-refused : (n : Refusal) → first_refusal (art_rest l s k i) ≡ some n → first_refusal (offer_rest l s k i) ≡ some n
+  unfolding offer_rest art_rest
+  rest-refused n e = first_of_part (art_rest l s k i) (room_rest l (art_for l.config s k i)) n e
+
+  pub rest-room : first_refusal (art_rest l s k i) ≡ none → first_refusal (offer_rest l s k i) ≡ first_refusal (room_rest l (art_for l.config s k i))
+  unfolding offer_rest art_rest
+  rest-room e = past_part (art_rest l s k i) (room_rest l (art_for l.config s k i)) e
+
+  -- past 7, for the art as the code makes it
+  pub rest-made : (o : Result Record Refusal) (a : Art) → a ≡ art_for l.config s k i → first_refusal (art_rest l s k i) ≡ none
+      → o ≡ record_answer (placed l.config (standing l) a) (first_refusal (room_rest l a))
+      → o ≡ record_answer (placed l.config (standing l) (art_for l.config s k i)) (first_refusal (offer_rest l s k i))
+  rest-made o a ea t e =
+      e ∙ ap (λ (z : Art). record_answer (placed l.config (standing l) z) (first_refusal (room_rest l z))) ea
+      ∙ ap (record_answer (placed l.config (standing l) (art_for l.config s k i))) (sym (rest-room t))

@@ -3,14 +3,16 @@ use Prim.Native.Nat.{ℕ, ◌+◌, ◌*◌, ◌/◌, ◌≤◌, ◌<◌}
 use native.Mathlib.Omega.{arith}
 use mathlib.Core.Bool.{Bool, cond}
 use mathlib.Core.List.{List, [], ◌∷◌, ◌++◌, append-nil}
-use mathlib.Core.Path.{◌≡◌, sym, ap, ◌∙◌, subst}
+use mathlib.Core.Path.{◌≡◌, refl, sym, ap, ◌∙◌, subst}
+use Rattle.std.specs.Prelude.{Result, Ok, Err}
 use lib.ListN.{length, length-append}
 use borrow.Author.Tests.{le-leb, lt-leb}
 use Rattle.records.specs.declared.layout.Layout.{Layout}
 use Rattle.wire.specs.Bytes.{words_bytes, put}
 use Rattle.wire.proofs.Putting.{words_long, put-none, put_front, put-behind}
-use Rattle.script.specs.Doing.{Leaves, said_by, Does}
+use Rattle.script.specs.Doing.{code_of, Leaves, said_by, Does}
 use Rattle.script.specs.Stepping.{Stepped, GoesOn, Stops, answer_bytes, end_bytes, saying}
+use Rattle.script.specs.declared.steps.Ended.{Ended}
 use Rattle.script.specs.declared.steps.Step.{Step}
 
 pub answer-plain : (ns : List ℕ) → answer_bytes ns [] ≡ words_bytes (length ns ∷ ns)
@@ -39,14 +41,14 @@ module _ (room : ℕ) (said : List ℕ) (l : Layout) (next : ℕ) (bytes : List 
   unfolding saying
   say_stops h = ap (λ (b : Bool). cond b (GoesOn l next bytes) (Stops 3)) (lt-leb (length said + length bytes + 12) room h)
 
-module _ (written : ℕ) (old : List ℕ) (r : Step) where
-  -- nothing is said where a command ends the run
-  pub does_stop : (p : Stepped) (code : ℕ) → p ≡ Stops code → r.code ≡ code → Does p written old old r
-  does_stop p code e h =
-      subst (λ (q : Stepped). Does q written old old r) (sym e) (record { leaves = h; answers = sym (put-none old written) })
+-- nothing is said where a command ends the run
+pub does_stop : (written : ℕ) (old : List ℕ) (p : Stepped) (e : Ended) → p ≡ Stops (code_of e) → Does p written old old (Err e)
+does_stop written old p e q =
+    subst (λ (z : Stepped). Does z written old old (Err e)) (sym q) (record { leaves = refl; answers = sym (put-none old written) })
 
+module _ (written : ℕ) (old : List ℕ) (r : Result Step Ended) where
   pub does_go : (p : Stepped) (new : List ℕ) (l : Layout) (next : ℕ) (bytes : List ℕ) → p ≡ GoesOn l next bytes
-      → r ≡ record { layout = l; next = next; written = written + length bytes; code = 0 } → new ≡ put old written bytes → Does p written old new r
+      → r ≡ Ok (record { layout = l; next = next; written = written + length bytes }) → new ≡ put old written bytes → Does p written old new r
   does_go p new l next bytes e h n = subst (λ (q : Stepped). Does q written old new r) (sym e) (record { leaves = h; answers = n })
 
   pub does_quiet : (p : Stepped) → said_by p ≡ [] → Leaves written p r → Does p written old old r

@@ -10,12 +10,20 @@ use Rattle.records.specs.Settings.{blank_config, empty_layout}
 use Rattle.records.specs.declared.layout.Layout.{Layout}
 use Rattle.wire.specs.Bytes.{put}
 use Rattle.wire.proofs.Putting.{put-none, put-long, put-take, put-behind}
-use Rattle.script.specs.Doing.{Does}
+use Rattle.script.specs.Doing.{code_of, Does}
 use Rattle.script.specs.Running.{ran_from, ran}
 use Rattle.script.specs.Stepping.{Stepped, GoesOn, Stops, end_bytes, stepped}
+use Rattle.script.specs.declared.steps.Ended.{Ended}
 use Rattle.script.specs.declared.steps.Step.{Step}
+use Rattle.std.specs.Prelude.{Result, Ok, Err}
 use Rattle.script.proofs.Answers.{end_long}
 use Rattle.script.proofs.Soundness.{Sound, stepped_sound}
+
+same_ok : {r q : Step} {a b : Result Step Ended} → a ≡ Ok r → b ≡ Ok q → a ≡ b → r ≡ q
+same_ok e f g = cc
+
+no_err : {e : Ended} {q : Step} {a : Result Step Ended} → a ≡ Err e → a ≡ Ok q → ⊥
+no_err h g = cc
 
 pub record Going (script : List ℕ) (s : Stores) (old now : List ℕ) (l : Layout) (at written : ℕ) : Type 0 where
   pub said : List ℕ
@@ -126,33 +134,37 @@ module _ (script : List ℕ) (s : Stores) (old : List ℕ) where
           stepped_sound script s (length old) g.said at l (omega arith)
 
       goes_step : (p : Stepped) (new : List ℕ) (r : Step) → stepped script s (length old) g.said at l ≡ p → Sound (length script) (length old) (length g.said) at p
-          → Does p written now new r → r.code ≡ 0 → Going script s old new r.layout r.next r.written × (at < r.next)
-      goes_step (GoesOn m next bytes) new r e a d z =
+          → Does p written now new (Ok r) → Going script s old new r.layout r.next r.written × (at < r.next)
+      goes_step (GoesOn m next bytes) new r e a d =
           let long = g.long in
           let so = goes_by g.turns m next bytes new g.enough e g.left a.0 a.1 (omega arith) d.answers in
-          subst (λ (q : Step). Going script s old new q.layout q.next q.written × (at < q.next)) (sym d.leaves) (so, a.0)
-      goes_step (Stops code) new r e a d z = let c = d.leaves in absurd (omega arith)
+          subst (λ (q : Step). Going script s old new q.layout q.next q.written × (at < q.next)) (sym (same_ok refl refl d.leaves)) (so, a.0)
+      goes_step (Stops code) new r e a d = absurd d.leaves
 
-      stops_step : (p : Stepped) (new : List ℕ) (r : Step) → stepped script s (length old) g.said at l ≡ p → Does p written now new r → (r.code ≡ 0 → ⊥)
-          → (new ≡ now) × (ran script s (length old) ≡ g.said ++ end_bytes r.code at)
-      stops_step (GoesOn m next bytes) new r e d z = absurd (z (ap (λ (q : Step). q.code) d.leaves))
-      stops_step (Stops code) new r e d z = (
+      stops_step : (p : Stepped) (new : List ℕ) (why : Ended) → stepped script s (length old) g.said at l ≡ p → Does p written now new (Err why)
+          → (new ≡ now) × (ran script s (length old) ≡ g.said ++ end_bytes (code_of why) at)
+      stops_step (GoesOn m next bytes) new why e d = absurd (no_err refl d.leaves)
+      stops_step (Stops code) new why e d = (
         d.answers ∙ put-none now written,
         sym g.left ∙ stops_at g.turns code g.enough e ∙ ap (λ (c : ℕ). g.said ++ end_bytes c at) (sym d.leaves),
       )
 
-      module _ (new : List ℕ) (r : Step) (d : Does (stepped script s (length now) (take written now) at l) written now new r) where
-        as_said : Does (stepped script s (length old) g.said at l) written now new r
-        as_said = subst (λ (p : Stepped). Does p written now new r) here d
+      module _ (new : List ℕ) where
+        as_said : (r : Result Step Ended) → Does (stepped script s (length now) (take written now) at l) written now new r
+            → Does (stepped script s (length old) g.said at l) written now new r
+        as_said r d = subst (λ (p : Stepped). Does p written now new r) here d
 
-        pub goes : r.code ≡ 0 → Going script s old new r.layout r.next r.written × (at < r.next)
-        goes z = goes_step (stepped script s (length old) g.said at l) new r refl sound as_said z
+        pub goes : (r : Step) → Does (stepped script s (length now) (take written now) at l) written now new (Ok r)
+            → Going script s old new r.layout r.next r.written × (at < r.next)
+        goes r d = goes_step (stepped script s (length old) g.said at l) new r refl sound (as_said (Ok r) d)
 
-        pub unchanged : (r.code ≡ 0 → ⊥) → new ≡ now
-        unchanged z = (stops_step (stepped script s (length old) g.said at l) new r refl as_said z).0
+        module _ (why : Ended) (d : Does (stepped script s (length now) (take written now) at l) written now new (Err why)) where
+          ends_here : (new ≡ now) × (ran script s (length old) ≡ g.said ++ end_bytes (code_of why) at)
+          ends_here = stops_step (stepped script s (length old) g.said at l) new why refl (as_said (Err why) d)
 
-        pub stops : {y : List ℕ} → (r.code ≡ 0 → ⊥) → y ≡ put new written (end_bytes r.code at)
-            → (written + 12 ≡ length (ran script s (length old))) × (y ≡ put old 0 (ran script s (length old)))
-        stops z q =
-            let e = stops_step (stepped script s (length old) g.said at l) new r refl as_said z in
-            ended_by r.code e.1 (q ∙ ap (λ (n : List ℕ). put n written (end_bytes r.code at)) e.0)
+          pub unchanged : new ≡ now
+          unchanged = ends_here.0
+
+          pub stops : {y : List ℕ} → y ≡ put new written (end_bytes (code_of why) at)
+              → (written + 12 ≡ length (ran script s (length old))) × (y ≡ put old 0 (ran script s (length old)))
+          stops q = ended_by (code_of why) ends_here.1 (q ∙ ap (λ (n : List ℕ). put n written (end_bytes (code_of why) at)) ends_here.0)

@@ -1,5 +1,4 @@
 pub mod Answers
-pub mod Checks
 pub mod Composing
 pub mod Going
 pub mod Handed

@@ -1,5 +1,5 @@
 -- When a command goes on, and when it stops. Assumes nothing.
-use Prim.Native.Nat.{ℕ, zero, suc, ◌+◌, ◌*◌, ◌/◌, ◌≤◌, ◌<◌}
+use Prim.Native.Nat.{ℕ, ◌+◌, ◌*◌, ◌/◌, ◌≤◌, ◌<◌}
 use native.Mathlib.Omega.{arith}
 use mathlib.Core.Bool.{Bool, true, false, cond}
 use mathlib.Core.List.{List, [], ◌∷◌}
@@ -14,7 +14,7 @@ use Rattle.compose.specs.declared.image_exporter.Composed.{Composed}
 use Rattle.wire.specs.Bytes.{words_bytes, put}
 use Rattle.wire.specs.Fields.{is_field, layout_with}
 use Rattle.commands.specs.Reading.{word, page_at, background_at}
-use Rattle.commands.specs.Telling.{Told, told}
+use Rattle.commands.specs.Telling.{Told}
 use Rattle.script.specs.Doing.{composed_size, said_by}
 use Rattle.script.specs.Stepping.{GoesOn, Stops, answer_bytes, next_at, saying, telling, composed_bytes, compose_outcome, compose_pixels, compose_step, check_source, check_past, check_numbers, check_step, set_step, data_step, command_step, stepped}
 use Rattle.script.proofs.Answers.{answer-long, front_answer}
@@ -104,16 +104,6 @@ unfolding telling
 telling-is room said at command t l next numbers p q r = sym (λ i. saying room said (p i) (q i) (answer_bytes (r i) []))
 
 module _ (script : List ℕ) (s : Stores) (room : ℕ) (said : List ℕ) (at : ℕ) (l : Layout) where
-  pub first_six_step : (n : ℕ) → n < 6 → command_step script s room said at l n ≡ telling room said at n (told script at s l n)
-  unfolding command_step told
-  first_six_step zero h = refl
-  first_six_step (suc zero) h = refl
-  first_six_step (suc (suc zero)) h = refl
-  first_six_step (suc (suc (suc zero))) h = refl
-  first_six_step (suc (suc (suc (suc zero)))) h = refl
-  first_six_step (suc (suc (suc (suc (suc zero))))) h = refl
-  first_six_step (suc (suc (suc (suc (suc (suc n)))))) h = absurd (omega arith)
-
   pub step-none : length script < at + 4 → stepped script s room said at l ≡ Stops 2
   unfolding stepped
   step-none h = rw (lt-ltb (length script) (at + 4) h)

@@ -8,7 +8,7 @@ ghost use Rattle.script.specs.Stepping.{composed_bytes, compose_outcome, compose
 ghost use Rattle.script.specs.Doing.{Does, composed_size};
 
 use crate::steps;
-use crate::steps::Step;
+use crate::steps::{Ended, Step};
 use compose::image_exporter;
 use compose::image_exporter::Composed;
 use lookup::image_row;
@@ -56,7 +56,7 @@ fn composed_size(o: Composed, n: usize) -> usize
     }
 }
 
-// 3 where the part that is lent does not fit in front of the end.
+// The part that is lent must fit in front of the end.
 pub fn compose_step<'a>(
     script: &'a [u8],
     symbols: &'a [u8],
@@ -65,24 +65,23 @@ pub fn compose_step<'a>(
     at: usize,
     l: Layout,
     written: usize,
-) -> Step
+) -> Result<Step, Ended>
     requires { There script.now at 8 × (written + 12 ≤ length answers.old) }
     ensures { Does (compose_step script.now (lent symbols.now wording.now) (length answers.old) (take written answers.old) at l) written answers.old answers.new result }
 {
     let size = words::word_at(script, at + 32) as usize;
     if answers.len() - written - 12 < 8 + size {
-        return steps::stopped(l, 3);
+        return Err(Ended::NoRoom);
     }
     let a = written + 8;
     let o = compose_in(script, symbols, wording, answers, at, l, a, a + size);
     let more = composed_size(o, size);
     steps::write_number(answers, written, answers::composed(o), (more / 4) as u32);
-    Step {
+    Ok(Step {
         layout: l,
         next: at + 36,
         written: a + more,
-        code: 0,
-    }
+    })
 }
 
 // Row of an image: it has at most 2048 pixels.
@@ -94,7 +93,7 @@ pub fn row_step<'a>(
     at: usize,
     l: Layout,
     written: usize,
-) -> Step
+) -> Result<Step, Ended>
     requires { There script.now at 2 × (written + 12 ≤ length answers.old) }
     ensures { Does (row_step script.now (lent symbols.now wording.now) (length answers.old) (take written answers.old) at l) written answers.old answers.new result }
 {
@@ -104,14 +103,13 @@ pub fn row_step<'a>(
     let part = image_row::row_of_image(l, symbols, wording, key, row);
     let size = part.len();
     if answers.len() - written - 12 < 8 + size {
-        return steps::stopped(l, 3);
+        return Err(Ended::NoRoom);
     }
     steps::write_number(answers, written, n, (size / 4) as u32);
     words::put_bytes(answers, written + 8, part);
-    Step {
+    Ok(Step {
         layout: l,
         next: at + 12,
         written: written + 8 + size,
-        code: 0,
-    }
+    })
 }

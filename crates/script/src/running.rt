@@ -3,13 +3,14 @@ ghost use Rattle.std.specs.Prelude.{◌≡◌, ◌+◌, ◌≤◌, ◌<◌, leng
 ghost use Rattle.art.specs.Stores.{lent};
 ghost use Rattle.records.specs.Settings.{blank_config, empty_layout};
 ghost use Rattle.wire.specs.Bytes.{put};
-ghost use Rattle.commands.specs.Taking.{words_of, There};
+ghost use Rattle.commands.specs.Taking.{command_number, words_of, There};
 ghost use Rattle.script.specs.Stepping.{end_bytes, command_step, stepped};
 ghost use Rattle.script.specs.Running.{ran};
 ghost use Rattle.script.specs.Doing.{Does};
 
-use crate::steps::Step;
+use crate::steps::{Ended, Step};
 use crate::{bytes, checking, steps};
+use commands::command::Command;
 use records::layout::Layout;
 use records::{layout as layouts, texture_packer_config};
 use wire::words;
@@ -20,45 +21,39 @@ fn run_command<'a>(
     symbols: &'a [u8],
     wording: &'a [u8],
     answers: &mut [u8],
-    command: usize,
+    command: Command,
     at: usize,
     l: Layout,
     written: usize,
-) -> Step
-    requires command_bound { (command < 12) × There script.now at (words_of command) }
+) -> Result<Step, Ended>
+    requires command_bound { There script.now at (words_of (command_number command)) }
     requires written_in_bounds { written + 12 ≤ length answers.old }
-    ensures { Does (command_step script.now (lent symbols.now wording.now) (length answers.old) (take written answers.old) at l command) written answers.old answers.new result }
+    ensures { Does (command_step script.now (lent symbols.now wording.now) (length answers.old) (take written answers.old) at l (command_number command)) written answers.old answers.new result }
 {
-    if command < 6 {
-        let o = commands::first_six(script, symbols, wording, command, at, l);
-        let next = at + 4 + 4 * commands::words_of(command);
-        return steps::say(answers, written, o.answer, o.layout, next);
-    }
-    if command < 7 {
-        return bytes::compose_step(script, symbols, wording, answers, at, l, written);
-    }
-    if command < 8 {
-        return checking::check_step(script, symbols, wording, answers, at, l, written);
-    }
-    if command < 9 {
-        return bytes::row_step(script, symbols, wording, answers, at, l, written);
-    }
-    if command < 10 {
-        return steps::say(
-            answers,
-            written,
-            commands::coordinates(script, at, l),
-            l,
-            at + 16,
-        );
-    }
-    if command < 11 {
-        return steps::set_step(script, at, l, written);
-    }
-    steps::data_step(script, at, l, written)
+    let o = match command {
+        Command::Open => commands::open(script, at),
+        Command::Ask => commands::ask(script, at, l),
+        Command::Offer => commands::offer(script, symbols, wording, at, l),
+        Command::Withdraw => commands::withdraw(l),
+        Command::PageSize => commands::page_size(script, at, l),
+        Command::Pixel => commands::pixel(script, symbols, wording, at, l),
+        Command::Coordinates => commands::coordinates(script, at, l),
+        Command::ComposeRows => {
+            return bytes::compose_step(script, symbols, wording, answers, at, l, written);
+        }
+        Command::CheckRows => {
+            return checking::check_step(script, symbols, wording, answers, at, l, written);
+        }
+        Command::RowOfImage => {
+            return bytes::row_step(script, symbols, wording, answers, at, l, written);
+        }
+        Command::Set => return steps::set_step(script, at, l, written),
+        Command::Data => return steps::data_step(script, at, l, written),
+    };
+    let next = at + 4 + 4 * command.words();
+    steps::say(answers, written, o.answer, o.layout, next)
 }
 
-// 1 where there is no such command, 2 where it is cut short.
 fn step<'a>(
     script: &'a [u8],
     symbols: &'a [u8],
@@ -67,20 +62,17 @@ fn step<'a>(
     at: usize,
     l: Layout,
     written: usize,
-) -> Step
+) -> Result<Step, Ended>
     requires { (at < length script.now) × (written + 12 ≤ length answers.old) }
     ensures { Does (stepped script.now (lent symbols.now wording.now) (length answers.old) (take written answers.old) at l) written answers.old answers.new result }
 {
     let left = script.len() - at;
     if left < 4 {
-        return steps::stopped(l, 2);
+        return Err(Ended::CutShort);
     }
-    let command = words::word_at(script, at) as usize;
-    if 11 < command {
-        return steps::stopped(l, 1);
-    }
-    if left - 4 < 4 * commands::words_of(command) {
-        return steps::stopped(l, 2);
+    let command = Command::try_from(words::word_at(script, at))?;
+    if left - 4 < 4 * command.words() {
+        return Err(Ended::CutShort);
     }
     run_command(script, symbols, wording, answers, command, at, l, written)
 }
@@ -117,14 +109,14 @@ pub fn run_commands<'a>(
     let mut at: usize = 0;
     let mut written: usize = 0;
     while at < script.len() {
-        let s = step(script, symbols, wording, answers, at, l, written);
-        let code = s.code;
-        if code != 0 {
-            return finish(answers, written, code, at);
+        match step(script, symbols, wording, answers, at, l, written) {
+            Ok(s) => {
+                l = s.layout;
+                at = s.next;
+                written = s.written;
+            }
+            Err(ended) => return finish(answers, written, u32::from(ended), at),
         }
-        l = s.layout;
-        at = s.next;
-        written = s.written;
     }
     finish(answers, written, 0, at)
 }

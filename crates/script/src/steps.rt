@@ -3,31 +3,50 @@ ghost use Rattle.std.specs.Prelude.{◌≡◌, [], ◌∷◌, ◌+◌, ◌*◌, 
 ghost use Rattle.wire.specs.Bytes.{words_bytes, put};
 ghost use Rattle.commands.specs.Taking.{There};
 ghost use Rattle.script.specs.Stepping.{answer_bytes, saying, set_step, data_step};
-ghost use Rattle.script.specs.Doing.{Leaves, Does};
+ghost use Rattle.script.specs.Doing.{code_of, Leaves, Does};
+ghost use Rattle.script.specs.declared.steps.Ended.TheVariants.{Unknown};
 
+use commands::command::NoCommand;
 use records::layout::Layout;
 use wire::answers::Answer;
 use wire::{fields, words};
 
-// Where a command leaves off: the layout, the next command's place in the script, the bytes of answers written, and why the run ends, 0 where it goes on.
+// Why a run ends before its script does: no such command or field, a command that is cut short, no room for an answer, a part that runs past its source.
+#[derive(Clone, Copy, PartialEq, Eq)]
+pub enum Ended {
+    Unknown,
+    CutShort,
+    NoRoom,
+    PastSource,
+}
+
+impl From<Ended> for u32 {
+    ghost from_gives = { λ e n. n ≡ code_of e };
+
+    fn from(e: Ended) -> u32 {
+        match e {
+            Ended::Unknown => 1,
+            Ended::CutShort => 2,
+            Ended::NoRoom => 3,
+            Ended::PastSource => 4,
+        }
+    }
+}
+
+impl From<NoCommand> for Ended {
+    ghost from_gives = { λ _ e. e ≡ Unknown };
+
+    fn from(_: NoCommand) -> Ended {
+        Ended::Unknown
+    }
+}
+
+// Where a command leaves off: the layout, the next command's place in the script, and the bytes of answers written.
 #[derive(Clone, Copy)]
 pub struct Step {
     pub layout: Layout,
     pub next: usize,
     pub written: usize,
-    pub code: u32,
-}
-
-// Only the code counts.
-pub fn stopped(l: Layout, code: u32) -> Step
-    ensures { result ≡ record { layout = l; next = 0; written = 0; code = code } }
-{
-    Step {
-        layout: l,
-        next: 0,
-        written: 0,
-        code,
-    }
 }
 
 fn write_answer(answers: &mut [u8], written: usize, a: Answer) -> usize
@@ -42,22 +61,26 @@ fn write_answer(answers: &mut [u8], written: usize, a: Answer) -> usize
     written + 4 + 4 * count
 }
 
-// 3 where the answer does not fit in front of the end.
-pub fn say(answers: &mut [u8], written: usize, a: Answer, l: Layout, next: usize) -> Step
+pub fn say(
+    answers: &mut [u8],
+    written: usize,
+    a: Answer,
+    l: Layout,
+    next: usize,
+) -> Result<Step, Ended>
     requires { (a.count ≤ 8) × (written + 12 ≤ length answers.old) }
     ensures { Does (saying (length answers.old) (take written answers.old) l next (answer_bytes (take a.count a.words) [])) written answers.old answers.new result }
 {
     let count = a.count;
     if answers.len() - written - 12 < 4 + 4 * count {
-        return stopped(l, 3);
+        return Err(Ended::NoRoom);
     }
     let to = write_answer(answers, written, a);
-    Step {
+    Ok(Step {
         layout: l,
         next,
         written: to,
-        code: 0,
-    }
+    })
 }
 
 // An answer of one number, with `more` words to follow it, which are counted with it.
@@ -69,38 +92,36 @@ pub fn write_number(answers: &mut [u8], written: usize, n: u32, more: u32)
     words::put_word(answers, written + 4, n);
 }
 
-pub fn set_step(script: &[u8], at: usize, l: Layout, written: usize) -> Step
+pub fn set_step(script: &[u8], at: usize, l: Layout, written: usize) -> Result<Step, Ended>
     requires { There script.now at 3 }
     ensures { Leaves written (set_step script.now at l) result }
 {
     let field = words::word_at(script, at + 4);
     if !fields::is_field(field) {
-        return stopped(l, 1);
+        return Err(Ended::Unknown);
     }
     let place = words::word_at(script, at + 8);
     let n = words::word_at(script, at + 12);
     let after = fields::layout_with(l, field, place, n);
-    Step {
+    Ok(Step {
         layout: after,
         next: at + 16,
         written,
-        code: 0,
-    }
+    })
 }
 
-pub fn data_step(script: &[u8], at: usize, l: Layout, written: usize) -> Step
+pub fn data_step(script: &[u8], at: usize, l: Layout, written: usize) -> Result<Step, Ended>
     requires { There script.now at 1 }
     ensures { Leaves written (data_step script.now at l) result }
 {
     let n = words::word_at(script, at + 4) as usize;
     let left = script.len() - at - 8;
     if left < 4 * n {
-        return stopped(l, 2);
+        return Err(Ended::CutShort);
     }
-    Step {
+    Ok(Step {
         layout: l,
         next: at + 8 + 4 * n,
         written,
-        code: 0,
-    }
+    })
 }

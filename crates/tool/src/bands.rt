@@ -1,6 +1,9 @@
 // A page in bands, each of as many rows as the buffer holds.
-ghost use Rattle.std.specs.Prelude.{◌≡◌, ◌+◌, ◌*◌, ◌≤◌, length};
+ghost use Rattle.std.specs.Prelude.{◌*◌, ◌≤◌};
+ghost use Rattle.tool.specs.Bands.{IsBand};
+ghost use Rattle.tool.specs.declared.bands.Rows.{Rows};
 
+use crate::telling::Refused;
 use crate::{files, system};
 use compose::checking::Checked;
 use compose::image_exporter::Composed;
@@ -10,13 +13,15 @@ use paint::background::Background;
 use records::frame::Page;
 use records::layout::Layout;
 use records::refusal::Refusal;
+use std::fmt;
+use std::fmt::Display;
 use std::io::{Read, Write};
 
-// What became of a page's file.
+// Why a page's file is not the page.
 #[derive(Clone, Copy)]
-pub enum Filed {
-    Same,
+pub enum Fault {
     Missing,
+    // The column and the row of the first pixel of which a byte differs.
     Differs(u32, u32),
     // The row in which the file ends.
     TooShort(u32),
@@ -28,11 +33,48 @@ pub enum Filed {
     Refused(Refusal),
 }
 
-// What is done with a band: composed in the buffer and written, or read into it and checked.
+impl Display for Fault {
+    fn fmt<W: fmt::Write>(&self, f: &mut fmt::Formatter<W>) -> fmt::Result {
+        match *self {
+            Fault::Missing => write!(f, "there is no such file"),
+            Fault::Differs(x, y) => write!(f, "DIFFERS, first in column {x} of row {y}"),
+            Fault::TooShort(y) => write!(f, "TOO SHORT, it ends in row {y}"),
+            Fault::TooLong => write!(f, "TOO LONG, it goes on after the last row"),
+            Fault::Unreadable => write!(f, "cannot be read"),
+            Fault::Unwritten => write!(f, "cannot be written"),
+            Fault::NoRoom => write!(f, "a row is longer than the buffer"),
+            Fault::Refused(refusal) => {
+                let operation = "compose or check rows";
+                let refused = Refused { operation, refusal };
+                write!(f, "{refused}")
+            }
+        }
+    }
+}
+
+// What the pages of a job are composed from.
 #[derive(Clone, Copy)]
-enum Task {
-    Write,
-    Check,
+pub struct Pages<'a> {
+    pub layout: &'a Layout,
+    pub symbols: &'a [u8],
+    pub wording: &'a [u8],
+    pub background: Background,
+}
+
+// One of the pages, and its size.
+#[derive(Clone, Copy)]
+pub struct Sheet<'a> {
+    pub pages: Pages<'a>,
+    pub page: Page,
+    pub size: Size,
+}
+
+// Whole rows of a page: how many bytes each has, the first, and how many they are.
+#[derive(Clone, Copy)]
+struct Rows {
+    long: usize,
+    first: u32,
+    count: u32,
 }
 
 // How many of the rows that are left are taken at once.
@@ -47,216 +89,98 @@ fn rows_at_once(room: usize, row: usize, left: u32) -> u32
     left
 }
 
-// One band, composed in the buffer and written.
-fn write_band<'a, F: Write>(
-    file: &mut F,
-    band: &mut [u8],
-    l: Layout,
-    symbols: &'a [u8],
-    wording: &'a [u8],
-    page: Page,
-    background: Background,
-    first: u32,
-    rows: u32,
-) -> Filed {
-    match image_exporter::compose_rows(l, symbols, wording, page, background, first, rows, band) {
-        Composed::Refused(r) => Filed::Refused(r),
-        Composed::Done => {
-            if system::write_all(file, band) {
-                Filed::Same
-            } else {
-                Filed::Unwritten
-            }
+impl Sheet<'_> {
+    fn compose(&self, rows: Rows, band: &mut [u8]) -> Result<(), Fault> {
+        let pages = self.pages;
+        match image_exporter::compose_rows(
+            *pages.layout,
+            pages.symbols,
+            pages.wording,
+            self.page,
+            pages.background,
+            rows.first,
+            rows.count,
+            band,
+        ) {
+            Composed::Refused(r) => Err(Fault::Refused(r)),
+            Composed::Done => Ok(()),
         }
     }
-}
 
-pub fn is_same(f: Filed) -> bool {
-    match f {
-        Filed::Same => true,
-        _ => false,
-    }
-}
-
-// What the bytes of a band say that were read, and the check of them.
-fn check_bytes<'a>(
-    l: Layout,
-    symbols: &'a [u8],
-    wording: &'a [u8],
-    page: Page,
-    background: Background,
-    first: u32,
-    rows: u32,
-    shown: &'a [u8],
-) -> Filed {
-    match checking::check_rows(l, symbols, wording, page, background, first, rows, shown) {
-        Checked::Same => Filed::Same,
-        Checked::Differs(x, y) => Filed::Differs(x, y),
-        Checked::Refused(r) => Filed::Refused(r),
-    }
-}
-
-// One band, read into the buffer and checked there.
-fn check_band<'a, F: Read>(
-    file: &mut F,
-    band: &mut [u8],
-    l: Layout,
-    symbols: &'a [u8],
-    wording: &'a [u8],
-    page: Page,
-    background: Background,
-    row: usize,
-    first: u32,
-    rows: u32,
-) -> Filed
-    requires { (1 ≤ row) × (length band.old ≡ row * rows) × (first + rows ≤ 4294967295) }
-{
-    let got = system::read_full(file, band);
-    if got < band.len() {
-        if files::rest(file) < 0 {
-            return Filed::Unreadable;
+    fn check(&self, rows: Rows, shown: &[u8]) -> Result<(), Fault> {
+        let pages = self.pages;
+        match checking::check_rows(
+            *pages.layout,
+            pages.symbols,
+            pages.wording,
+            self.page,
+            pages.background,
+            rows.first,
+            rows.count,
+            shown,
+        ) {
+            Checked::Same => Ok(()),
+            Checked::Differs(x, y) => Err(Fault::Differs(x, y)),
+            Checked::Refused(r) => Err(Fault::Refused(r)),
         }
-        return Filed::TooShort(first + (got / row) as u32);
     }
-    check_bytes(l, symbols, wording, page, background, first, rows, band)
-}
 
-// The end of a file whose rows are all there and the same.
-fn check_end<F: Read>(file: &mut F) -> Filed {
-    let rest = files::rest(file);
-    if rest < 0 {
-        return Filed::Unreadable;
-    }
-    if rest > 0 {
-        return Filed::TooLong;
-    }
-    Filed::Same
-}
-
-fn do_band<'a, F: Read + Write>(
-    task: Task,
-    file: &mut F,
-    band: &mut [u8],
-    l: Layout,
-    symbols: &'a [u8],
-    wording: &'a [u8],
-    page: Page,
-    background: Background,
-    row: usize,
-    first: u32,
-    rows: u32,
-) -> Filed
-    requires { (1 ≤ row) × (length band.old ≡ row * rows) × (first + rows ≤ 4294967295) }
-{
-    match task {
-        Task::Write => write_band(
-            file, band, l, symbols, wording, page, background, first, rows,
-        ),
-        Task::Check => check_band(
-            file, band, l, symbols, wording, page, background, row, first, rows,
-        ),
-    }
-}
-
-// A page of w by h, from its first row to its last.
-fn each_band<'a, F: Read + Write>(
-    task: Task,
-    file: &mut F,
-    buf: &mut [u8],
-    l: Layout,
-    symbols: &'a [u8],
-    wording: &'a [u8],
-    page: Page,
-    background: Background,
-    w: u32,
-    h: u32,
-) -> Filed
-    requires { 1 ≤ w }
-{
-    let row = 4 * w as usize;
-    let mut first: u32 = 0;
-    while first < h {
-        let n = rows_at_once(buf.len(), row, h - first);
-        if n == 0 {
-            return Filed::NoRoom;
+    // One band, read into the buffer and checked there.
+    fn check_band<F: Read>(&self, file: &mut F, rows: Rows, band: &mut [u8]) -> Result<(), Fault>
+        requires { IsBand rows band.old }
+    {
+        let got = system::read_full(file, band);
+        if got < band.len() {
+            files::rest(file).map_err(|_| Fault::Unreadable)?;
+            return Err(Fault::TooShort(rows.first + (got / rows.long) as u32));
         }
-        let long = row * n as usize;
-        let f = do_band(
-            task,
-            file,
-            &mut buf[..long],
-            l,
-            symbols,
-            wording,
-            page,
-            background,
-            row,
-            first,
-            n,
-        );
-        if !is_same(f) {
-            return f;
+        self.check(rows, band)
+    }
+
+    // The page from its first row to its last, in bands of as many rows as the buffer holds.
+    fn each_band<F: FnMut(Rows, &mut [u8]) -> Result<(), Fault>>(
+        &self,
+        buf: &mut [u8],
+        mut step: F,
+    ) -> Result<(), Fault>
+        requires { (s : F) (rows : Rows) (band : _) → IsBand rows band.now → F.pre s rows band }
+    {
+        let Size { w, h } = self.size;
+        if w == 0 {
+            return Err(Fault::Refused(Refusal::EmptyPage));
         }
-        first += n;
+        let long = 4 * w as usize;
+        let most = buf.len() / long;
+        if most == 0 {
+            return Err(Fault::NoRoom);
+        }
+        for first in (0..h).step_by(most) {
+            let count = rows_at_once(buf.len(), long, h - first);
+            let end = long * count as usize;
+            step(Rows { long, first, count }, &mut buf[..end])?;
+        }
+        Ok(())
     }
-    Filed::Same
-}
 
-// A page composed, and written to an open file.
-pub fn write_page<'a, F: Read + Write>(
-    file: &mut F,
-    buf: &mut [u8],
-    l: Layout,
-    symbols: &'a [u8],
-    wording: &'a [u8],
-    page: Page,
-    background: Background,
-    size: Size,
-) -> Filed {
-    let w = size.w;
-    if w == 0 {
-        return Filed::Refused(Refusal::EmptyPage);
+    // A page composed, and written to an open file.
+    pub fn write_page<F: Write>(&self, file: &mut F, buf: &mut [u8]) -> Result<(), Fault> {
+        self.each_band(buf, |rows, band| {
+            self.compose(rows, band)?;
+            file.write_all(band).map_err(|_| Fault::Unwritten)
+        })
     }
-    each_band(
-        Task::Write,
-        file,
-        buf,
-        l,
-        symbols,
-        wording,
-        page,
-        background,
-        w,
-        size.h,
-    )
-}
 
-// The bytes of an open file, which has to be as long as the page.
-pub fn check_page<'a, F: Read + Write>(
-    file: &mut F,
-    buf: &mut [u8],
-    l: Layout,
-    symbols: &'a [u8],
-    wording: &'a [u8],
-    page: Page,
-    background: Background,
-    size: Size,
-) -> Filed {
-    let w = size.w;
-    if w == 0 {
-        return Filed::Refused(Refusal::EmptyPage);
+    // The bytes of an open file, which has to be as long as the page.
+    pub fn check_page<F: Read>(&self, file: &mut F, buf: &mut [u8]) -> Result<(), Fault> {
+        self.each_band(
+            buf,
+            |rows, band|
+                requires { IsBand rows band.old }
+            { self.check_band(file, rows, band) },
+        )?;
+        if files::rest(file).map_err(|_| Fault::Unreadable)? {
+            return Err(Fault::TooLong);
+        }
+        Ok(())
     }
-    let f = each_band(
-        Task::Check,
-        file,
-        buf,
-        l,
-        symbols,
-        wording,
-        page,
-        background,
-        w,
-        size.h,
-    );
-    if is_same(f) { check_end(file) } else { f }
 }

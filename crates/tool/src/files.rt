@@ -1,88 +1,83 @@
 // Files: one read whole, and the name of a page's file.
-ghost use Rattle.std.specs.Prelude.{◌≤◌, length};
-ghost use Rattle.tool.specs.Counts.{IsPrefixLen};
+ghost use Rattle.std.specs.Prelude.{◌≤◌, IfOk, vec_len};
 
 use crate::system;
-use std::io::Read;
+use records::frame::Page;
+use std::alloc::{AllocError, Global};
+use std::fmt::Display;
+use std::io::{ErrorKind, Read};
 use std::rt::Files;
+use std::{fmt, io};
 
+// Why a file's bytes are not there.
 #[derive(Clone, Copy)]
-pub enum Found {
-    Whole,
+pub enum Unread {
     Missing,
     Unreadable,
-    TooLong,
+    // It has more bytes than this.
+    TooLong(usize),
+    NoMemory,
 }
 
-// What was found, and how many bytes of it are in the buffer.
-#[derive(Clone, Copy)]
-pub struct Reading {
-    pub found: Found,
-    pub length: usize,
+impl Display for Unread {
+    fn fmt<W: fmt::Write>(&self, f: &mut fmt::Formatter<W>) -> fmt::Result {
+        match *self {
+            Unread::Missing => write!(f, "cannot be opened"),
+            Unread::Unreadable => write!(f, "cannot be read"),
+            Unread::TooLong(limit) => write!(f, "is longer than {limit} bytes"),
+            Unread::NoMemory => write!(f, "there is no memory to read it"),
+        }
+    }
 }
 
-// Whether the file ends here: 0 where it does, below 0 where it cannot be read, above where it goes on.
-pub fn rest<F: Read>(file: &mut F) -> isize {
+impl From<io::Error> for Unread {
+    fn from(error: io::Error) -> Unread {
+        if error.kind() == ErrorKind::OutOfMemory {
+            Unread::NoMemory
+        } else {
+            Unread::Unreadable
+        }
+    }
+}
+
+// Whether the file goes on from here.
+pub fn rest<F: Read>(file: &mut F) -> io::Result<bool> {
     let mut one = [0u8; 1];
-    match file.read(&mut one) {
-        Ok(n) => n as isize,
-        Err(_) => -1,
-    }
+    Ok(file.read(&mut one)? > 0)
 }
 
-fn found_after(rest: isize) -> Found {
-    if rest < 0 {
-        return Found::Unreadable;
-    }
-    if rest > 0 {
-        return Found::TooLong;
-    }
-    Found::Whole
-}
-
-// The whole of a file, in the front of the buffer.
-pub fn read_file(rt: &impl Files, path: &[u8], buf: &mut [u8]) -> Reading
-    ensures { IsPrefixLen result.length buf.new }
+// The whole of a file.
+pub fn read_file<R: Files + AllocGlobal>(
+    rt: &R,
+    path: &[u8],
+    limit: usize,
+) -> Result<Vec<u8>, Unread>
+    ensures { IfOk result (λ bytes. vec_len bytes ≤ limit) }
 {
-    let Some(mut file) = system::open_read(rt, path) else {
-        return Reading {
-            found: Found::Missing,
-            length: 0,
-        };
-    };
-    let n = system::read_full(&mut file, buf);
-    let found = found_after(rest(&mut file));
-    Reading { found, length: n }
-}
-
-fn least(a: usize, b: usize) -> usize
-    ensures { (result ≤ a) × (result ≤ b) }
-{
-    if a < b { a } else { b }
-}
-
-// Copies bytes to a place of the buffer, as far as there is room, and answers where they end.
-fn put(buf: &mut [u8], at: usize, part: &[u8]) -> usize
-    requires { at ≤ length buf.old }
-    ensures { IsPrefixLen result buf.new }
-{
-    let n = least(part.len(), buf.len() - at);
-    let mut i = 0;
-    while i < n {
-        buf[at + i] = part[i];
-        i += 1;
+    let file = system::open_read(rt, path).ok_or(Unread::Missing)?;
+    let mut bytes = Vec::new(rt.alloc());
+    file.take((limit as u64).saturating_add(1))
+        .read_to_end(&mut bytes)?;
+    if bytes.len() > limit {
+        return Err(Unread::TooLong(limit));
     }
-    at + n
+    Ok(bytes)
 }
 
-// FOLDER/page-N and an ending; a page's number has one digit. A name is cut where the buffer ends: with 4096 bytes that is a path which no system
-// call takes.
-pub fn page_path(folder: &[u8], page: u32, ending: &[u8], out: &mut [u8]) -> usize
-    ensures { IsPrefixLen result out.new }
-{
-    let digit = [b'0' + (page % 10) as u8];
-    let a = put(out, 0, folder);
-    let b = put(out, a, b"/page-");
-    let c = put(out, b, &digit);
-    put(out, c, ending)
+// The longest name of a page's file. No system call takes a path that is so long.
+const LONGEST: usize = 4096;
+
+// FOLDER/page-N and an ending. A longer name is cut, which is as far as the programs say it.
+pub fn page_path(
+    alloc: Global,
+    folder: &str,
+    page: Page,
+    ending: &str,
+) -> Result<String, AllocError> {
+    let number = page.0;
+    let path = format!(in alloc; "{folder}/page-{number}{ending}")?;
+    match path.as_str().get(..LONGEST) {
+        Some(cut) => String::from_str(alloc, cut),
+        None => Ok(path),
+    }
 }

@@ -1,5 +1,6 @@
 // What is said of a job that is laid out: where each image stands, and what was refused.
 use crate::telling;
+use crate::telling::Refused;
 use geometry::spot::Turn;
 use job::reading::Job;
 use laying::Stop;
@@ -7,56 +8,50 @@ use records::frame;
 use records::frame::Record;
 use records::layout::Layout;
 
-fn say_turn(rt: &impl Print, t: Turn) {
+fn turn_word(t: Turn) -> &'static str {
     match t {
-        Turn::Upright => telling::say(rt, b"upright"),
-        Turn::Turned => telling::say(rt, b"turned"),
+        Turn::Upright => "upright",
+        Turn::Turned => "turned",
     }
 }
 
 // image 4: page 0, frame 16x34 at 1,36, turned, trim box 34x16 at 2,8 of 40x32
 fn say_record(rt: &impl Print, r: Record) {
-    telling::say(rt, b"image ");
-    telling::say_number(rt, r.key.0 as u64);
-    telling::say(rt, b": page ");
-    telling::say_number(rt, r.page.0 as u64);
-    telling::say(rt, b", frame ");
-    telling::say_rect(rt, r.frame);
-    telling::say(rt, b", ");
-    let turn = r.turn;
-    say_turn(rt, turn);
-    telling::say(rt, b", trim box ");
-    telling::say_rect(rt, frame::box_of(r));
-    telling::say(rt, b" of ");
-    telling::say_size(rt, frame::whole_of(r));
-    telling::say(rt, b"\n");
+    let key = r.key.0;
+    let page = r.page.0;
+    let frame = r.frame;
+    let turn = turn_word(r.turn);
+    let trim = frame::box_of(r);
+    let whole = frame::whole_of(r);
+    let _ = println!(rt;
+        "image {key}: page {page}, frame {}x{} at {},{}, {turn}, trim box {}x{} at {},{} of {}x{}",
+        frame.w, frame.h, frame.x, frame.y, trim.w, trim.h, trim.x, trim.y, whole.w, whole.h
+    );
 }
 
 // A line for each image that stands, in the job's order.
-pub fn say_places(rt: &impl Print, l: Layout) {
-    let mut i: usize = 0;
-    while (i < l.count) & (i < 256) {
-        say_record(rt, l.records[i]);
-        i += 1;
+pub fn say_places(rt: &impl Print, l: &Layout) {
+    for r in l.records.iter().take(l.count) {
+        say_record(rt, *r);
     }
 }
 
 // The number of the line of the image in a place.
-fn line_of(j: Job, k: usize) -> usize {
-    if k < 256 { j.entries[k].line } else { 0 }
+fn line_of(j: &Job, k: usize) -> usize {
+    j.entries.get(k).map_or(0, |entry| entry.line)
 }
 
 // What was refused, where anything was.
-pub fn say_stop(rt: &impl Print, path: &[u8], j: Job, s: Stop) {
+pub fn say_stop(rt: &impl Print, name: &[u8], j: &Job, s: Stop) {
     match s {
         Stop::Nowhere => {}
-        Stop::AtOpen(r) => {
-            telling::say_line(rt, path, j.opened);
-            telling::say_refusal(rt, b"open", r);
+        Stop::AtOpen(refusal) => {
+            let operation = "open";
+            telling::say_line(rt, name, j.opened, Refused { operation, refusal });
         }
-        Stop::AtOffer(k, r) => {
-            telling::say_line(rt, path, line_of(j, k));
-            telling::say_refusal(rt, b"offer", r);
+        Stop::AtOffer(k, refusal) => {
+            let operation = "offer";
+            telling::say_line(rt, name, line_of(j, k), Refused { operation, refusal });
         }
     }
 }

@@ -1,30 +1,21 @@
 // What the system gives the programs: the bytes of files, files by name, and the arguments.
-ghost use Rattle.std.specs.Prelude.{◌≤◌, length};
 ghost use Rattle.tool.specs.Counts.{IsPrefixLen};
 
+use std::alloc::AllocError;
 use std::env::FillError;
 use std::fs::OpenFile;
-use std::io::{ErrorKind, Read, Write};
+use std::io::{ErrorKind, Read};
 use std::rt::{Env, Files};
-use std::{fs, str};
+use std::{fs, io, str};
 
-// One read; 0 also where it fails.
-fn read_some<F: Read>(file: &mut F, buf: &mut [u8]) -> usize
-    ensures { result ≤ length buf.new }
-{
-    match file.read(buf) {
-        Ok(n) => n,
-        Err(_) => 0,
-    }
-}
-
-// Reads until the buffer is full, the file ends or a read fails, and answers how many bytes are in the front of the buffer.
+// Reads until the buffer is full, the file ends or a read fails, and answers how many bytes are in the front of the buffer: std's read_exact does not
+// say how many it read.
 pub fn read_full<F: Read>(file: &mut F, buf: &mut [u8]) -> usize
     ensures { IsPrefixLen result buf.new }
 {
     let mut done = 0;
     while done < buf.len() {
-        let n = read_some(file, &mut buf[done..]);
+        let n = file.read(&mut buf[done..]).unwrap_or(0);
         if n == 0 {
             break;
         }
@@ -33,104 +24,35 @@ pub fn read_full<F: Read>(file: &mut F, buf: &mut [u8]) -> usize
     done
 }
 
-// One write; 0 also where it fails.
-fn write_some<F: Write>(file: &mut F, bytes: &[u8]) -> usize
-    ensures { result ≤ length bytes.now }
-{
-    match file.write(bytes) {
-        Ok(n) => n,
-        Err(_) => 0,
-    }
-}
-
-// Writes all of the bytes; or stops at the first write that takes nothing or fails, and answers false.
-pub fn write_all<F: Write>(file: &mut F, bytes: &[u8]) -> bool {
-    let mut done = 0;
-    while done < bytes.len() {
-        let n = write_some(file, &bytes[done..]);
-        if n == 0 {
-            return false;
-        }
-        done += n;
-    }
-    true
-}
-
 // std takes a path as text: bytes that are not UTF-8 name no file here.
-
-pub fn is_name(path: &[u8]) -> bool {
-    str::from_utf8(path).is_ok()
-}
-
 pub fn open_read<R: Files>(rt: &R, path: &[u8]) -> Option<R::File> {
-    match str::from_utf8(path) {
-        Ok(name) => fs::open(rt, name).ok(),
-        Err(_) => None,
-    }
+    let name = str::from_utf8(path).ok()?;
+    fs::open(rt, name).ok()
 }
 
-// An older file is emptied, and one that is missing is made.
-pub fn open_overwrite<R: Files>(rt: &R, path: &[u8]) -> Option<R::File> {
-    match str::from_utf8(path) {
-        Ok(name) => fs::create(rt, name).ok(),
-        Err(_) => None,
-    }
-}
-
-// Closes a file that was written, and answers whether all of it has reached the file. std says no error of a close, so the file is synced before it,
+// Closes a file that was written; an error says that not all of it has reached the file. std says no error of a close, so the file is synced before it,
 // which finds what a close would find; a file of a kind that is never synced counts as written.
-pub fn close_written<F: OpenFile + Drop>(file: F) -> bool {
+pub fn close_written<F: OpenFile + Drop>(file: F) -> io::Result<()> {
     match file.sync_all() {
-        Ok(()) => true,
-        Err(error) => error.kind() == ErrorKind::InvalidInput,
+        Err(error) if error.kind() == ErrorKind::InvalidInput => Ok(()),
+        synced => synced,
     }
 }
 
-pub fn rename(rt: &impl Files, from: &[u8], to: &[u8]) -> bool {
-    match (str::from_utf8(from), str::from_utf8(to)) {
-        (Ok(old), Ok(new)) => fs::rename(rt, old, new).is_ok(),
-        _ => false,
-    }
-}
+// The longest argument that is taken, as long as the longest path of a system call.
+const LONGEST: usize = 4096;
 
-// A file that is not there need not be removed.
-pub fn remove(rt: &impl Files, path: &[u8]) {
-    if let Ok(name) = str::from_utf8(path) {
-        let _ = fs::remove_file(rt, name);
-    }
-}
-
-// A folder that is there already stays.
-pub fn make_folder(rt: &impl Files, path: &[u8]) {
-    if let Ok(name) = str::from_utf8(path) {
-        let _ = fs::create_dir(rt, name);
-    }
-}
-
-// Argument i in the front of the buffer, and its length; 0 where there is none, and where it is longer than the buffer.
-pub fn argument(rt: &impl Env, i: usize, buf: &mut [u8]) -> usize
-    ensures { IsPrefixLen result buf.new }
-{
-    match rt.arg(i, buf) {
-        Ok(n) => n,
-        Err(_) => 0,
-    }
-}
-
-fn has_argument(rt: &impl Env, i: usize) -> bool {
-    let mut one = [0u8; 1];
-    match rt.arg(i, &mut one) {
-        Err(FillError::NotPresent) => false,
-        _ => true,
-    }
-}
-
-// How many arguments there are, with the program's own name.
-pub fn argument_count(rt: &impl Env) -> usize {
+// The arguments, with the program's own name: bytes, which need not be text. One that is longer than the longest is an empty name, which no file has.
+pub fn arguments<R: Env + AllocGlobal>(rt: &R) -> Result<Vec<Vec<u8>>, AllocError> {
+    let mut room = [0u8; LONGEST];
+    let mut all = Vec::new(rt.alloc());
     for i in 0..usize::MAX {
-        if !has_argument(rt, i) {
-            return i;
-        }
+        let length = match rt.arg(i, &mut room) {
+            Ok(n) => n,
+            Err(FillError::TooLong) => 0,
+            Err(FillError::NotPresent) => break,
+        };
+        all.push(Vec::from_slice(rt.alloc(), &room[..length])?)?;
     }
-    usize::MAX
+    Ok(all)
 }

@@ -1,71 +1,61 @@
-// What the programs say, on standard output.
-use geometry::rect::{Rect, Size};
+// What the programs say, on standard output. What cannot be written is left unsaid: the work goes on.
 use records::refusal;
 use records::refusal::Refusal;
+use std::fmt;
+use std::fmt::Display;
 
-// What cannot be written is left unsaid: the work goes on.
-pub fn say(rt: &impl Print, text: &[u8]) {
-    let _ = rt.write_all(text);
+// Bytes as they are: a name need not be text.
+pub fn say(rt: &impl Print, bytes: &[u8]) {
+    let _ = rt.write_all(bytes);
 }
 
-pub fn say_number(rt: &impl Print, n: u64) {
-    let _ = rt.print(n);
+// A line that begins with a name: pump.job: NOT PACKED
+pub(crate) fn say_of(rt: &impl Print, name: &[u8], what: impl Display + Drop) {
+    say(rt, name);
+    let _ = println!(rt; ": {what}");
 }
 
-// 24x16
-pub fn say_size(rt: &impl Print, s: Size) {
-    say_number(rt, s.w as u64);
-    say(rt, b"x");
-    say_number(rt, s.h as u64);
-}
-
-// 24x16 at 2,0
-pub fn say_rect(rt: &impl Print, r: Rect) {
-    say_size(rt, Size { w: r.w, h: r.h });
-    say(rt, b" at ");
-    say_number(rt, r.x as u64);
-    say(rt, b",");
-    say_number(rt, r.y as u64);
+// A line of a job: pump.job: line 7: malformed: ..
+pub fn say_line(rt: &impl Print, name: &[u8], line: usize, what: impl Display + Drop) {
+    say_of(rt, name, format_args!("line {line}: {what}"));
 }
 
 // Document 01's meaning of a refusal's number.
-fn say_meaning(rt: &impl Print, r: Refusal) {
+fn meaning(r: Refusal) -> &'static str {
     match r {
-        Refusal::OutOfBounds => say(rt, b"the configuration is out of bounds"),
-        Refusal::NotWellFormed => say(rt, b"the layout is not well-formed"),
-        Refusal::NotFaithful => say(rt, b"the layout is not faithful"),
-        Refusal::BadSize => say(rt, b"a width or height is outside 1 to 2048"),
-        Refusal::PastStore => say(rt, b"an image runs past the end of its store"),
-        Refusal::KeyStands => say(rt, b"an image with this key stands already"),
-        Refusal::AllClear => say(rt, b"trimming leaves nothing: every pixel's alpha is 0"),
-        Refusal::TooLarge => say(rt, b"the image is too large for an empty page"),
-        Refusal::ImageLimit => say(rt, b"the limit of images is reached"),
-        Refusal::PageLimit => say(rt, b"it fits on no page, and the limit of pages is reached"),
-        Refusal::NoSuchPage => say(rt, b"there is no such page"),
-        Refusal::EmptyPage => say(rt, b"the page's width or height is 0"),
-        Refusal::BadRows => say(rt, b"these rows are not on the page"),
-        Refusal::BadLength => say(rt, b"the buffer does not have the rows' length"),
-        Refusal::NoSuchKey => say(rt, b"no image has this key"),
-        Refusal::PastPage => say(rt, b"the frame runs past the page"),
-        Refusal::BadInset => say(rt, b"the inset is not between 0 and 0.5"),
-        Refusal::NothingStands => say(rt, b"no image stands"),
+        Refusal::OutOfBounds => "the configuration is out of bounds",
+        Refusal::NotWellFormed => "the layout is not well-formed",
+        Refusal::NotFaithful => "the layout is not faithful",
+        Refusal::BadSize => "a width or height is outside 1 to 2048",
+        Refusal::PastStore => "an image runs past the end of its store",
+        Refusal::KeyStands => "an image with this key stands already",
+        Refusal::AllClear => "trimming leaves nothing: every pixel's alpha is 0",
+        Refusal::TooLarge => "the image is too large for an empty page",
+        Refusal::ImageLimit => "the limit of images is reached",
+        Refusal::PageLimit => "it fits on no page, and the limit of pages is reached",
+        Refusal::NoSuchPage => "there is no such page",
+        Refusal::EmptyPage => "the page's width or height is 0",
+        Refusal::BadRows => "these rows are not on the page",
+        Refusal::BadLength => "the buffer does not have the rows' length",
+        Refusal::NoSuchKey => "no image has this key",
+        Refusal::PastPage => "the frame runs past the page",
+        Refusal::BadInset => "the inset is not between 0 and 0.5",
+        Refusal::NothingStands => "no image stands",
     }
 }
 
 // offer refused, 8: the image is too large for an empty page
-pub fn say_refusal(rt: &impl Print, operation: &[u8], r: Refusal) {
-    say(rt, operation);
-    say(rt, b" refused, ");
-    say_number(rt, refusal::number_of(r) as u64);
-    say(rt, b": ");
-    say_meaning(rt, r);
-    say(rt, b"\n");
+#[derive(Clone, Copy)]
+pub struct Refused {
+    pub operation: &'static str,
+    pub refusal: Refusal,
 }
 
-// pump.job: line 7:
-pub fn say_line(rt: &impl Print, path: &[u8], line: usize) {
-    say(rt, path);
-    say(rt, b": line ");
-    say_number(rt, line as u64);
-    say(rt, b": ");
+impl Display for Refused {
+    fn fmt<W: fmt::Write>(&self, f: &mut fmt::Formatter<W>) -> fmt::Result {
+        let operation = self.operation;
+        let number = refusal::number_of(self.refusal);
+        let meaning = meaning(self.refusal);
+        write!(f, "{operation} refused, {number}: {meaning}")
+    }
 }

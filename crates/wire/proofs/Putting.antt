@@ -1,13 +1,21 @@
 -- Laws of bytes that are written over others. Assumes nothing.
-use Prim.Native.Nat.{ℕ, ◌+◌, ◌-◌, ◌*◌, ◌≤◌, ◌<◌}
+use Prim.Native.Nat.{ℕ, ◌+◌, ◌-◌, ◌*◌, ◌/◌, ◌%◌, ◌≤◌, ◌<◌}
 use native.Mathlib.Numerals.{add-one}
 use native.Mathlib.Omega.{arith}
 use mathlib.Core.List.{List, [], ◌∷◌, ◌++◌, append_assoc, append-nil}
 use mathlib.Core.Path.{◌≡◌, refl, sym, ap, ◌∙◌}
 use lib.ListN.{length, get_or, take, drop, length-append, length-drop, take-append-drop}
 use lib.Seq.{take-suc, take_at, drop_at, take-take, take-append-le, length-take-le, drop-drop}
+use Rattle.std.specs.Int.{w32, to_le_bytes}
 use borrow.Rule.Slice.PartMut.{put_mid}
 use Rattle.wire.specs.Bytes.{word_bytes, words_bytes, put}
+
+-- the language's bytes of a word: the highest needs no remainder
+pub le-bytes : (n : ℕ) → n < 4294967296 → to_le_bytes w32 n ≡ word_bytes n
+unfolding word_bytes
+le-bytes n h =
+    let highest : n / 16777216 % 256 ≡ n / 16777216 = omega arith in
+    ap (λ (b : ℕ). n % 256 ∷ n / 256 % 256 ∷ n / 65536 % 256 ∷ b ∷ []) highest
 
 pub word-long : (n : ℕ) → length (word_bytes n) ≡ 4
 unfolding word_bytes

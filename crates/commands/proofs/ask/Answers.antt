@@ -1,4 +1,4 @@
-use mathlib.Core.Path.{◌∙◌, subst}
+use mathlib.Core.Path.{refl, ◌∙◌, subst}
 use Rattle.rules.specs.Operations.{asked, asked_numbers}
 use Rattle.wire.specs.Saying.{Says}
 use Rattle.commands.specs.Reading.{page_at, size_at}
@@ -10,4 +10,4 @@ unfolding ask_told page_at size_at
 returns c =
     let l = c.args.l in
     let e = c.ask.ensures.value ∙ (λ i. asked l (record { 0 = c.word_at.ensures i }) (record { w = c.word_at-w.ensures i; h = c.word_at-h.ensures i })) in
-    subst (λ o. Says (asked_numbers o) c.asked.result) e c.asked.ensures
+    record { says = subst (λ o. Says (asked_numbers o) c.asked-answer.result) e c.asked-answer.ensures; layout = refl }

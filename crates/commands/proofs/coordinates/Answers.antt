@@ -1,4 +1,4 @@
-use mathlib.Core.Path.{◌∙◌, subst}
+use mathlib.Core.Path.{refl, ◌∙◌, subst}
 use Rattle.coords.specs.Coordinates.{located, located_numbers}
 use Rattle.wire.specs.Saying.{Says}
 use Rattle.commands.specs.Reading.{key_at, request_of}
@@ -11,4 +11,4 @@ returns c =
     let l = c.args.l in
     let request = c.request_of.ensures ∙ (λ i. request_of (c.word_at-request.ensures i) (c.word_at-bits.ensures i)) in
     let e = c.coordinates.ensures.value ∙ (λ i. located l (record { 0 = c.word_at.ensures i }) (request i)) in
-    subst (λ o. Says (located_numbers o) c.located.result) e c.located.ensures
+    record { says = subst (λ o. Says (located_numbers o) c.located-answer.result) e c.located-answer.ensures; layout = refl }

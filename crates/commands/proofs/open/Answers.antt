@@ -8,4 +8,4 @@ pub returns : goal.returns
 unfolding open_told
 returns c =
     let e = c.open-o.ensures.value ∙ ap opened c.config_at.ensures in
-    record { says = subst (λ o. Says (opened_numbers o.answer) c.opened-answer.result) e c.opened-answer.ensures; layout = ap (λ o. o.layout) e }
+    record { says = subst (λ o. Says (opened_numbers o.answer) c.opened.result) e c.opened.ensures; layout = ap (λ o. o.layout) e }

@@ -1,4 +1,4 @@
-use mathlib.Core.Path.{◌∙◌, subst}
+use mathlib.Core.Path.{refl, ◌∙◌, subst}
 use Rattle.records.specs.Operations.{page_sized, sized_numbers}
 use Rattle.wire.specs.Saying.{Says}
 use Rattle.commands.specs.Reading.{page_at}
@@ -9,4 +9,4 @@ pub returns : goal.returns
 unfolding size_told page_at
 returns c =
     let e = c.page_size.ensures.value ∙ (λ i. page_sized c.args.l (record { 0 = c.word_at.ensures i })) in
-    subst (λ o. Says (sized_numbers o) c.sized.result) e c.sized.ensures
+    record { says = subst (λ o. Says (sized_numbers o) c.sized-answer.result) e c.sized-answer.ensures; layout = refl }

@@ -1,4 +1,4 @@
-use mathlib.Core.Path.{◌∙◌, subst}
+use mathlib.Core.Path.{refl, ◌∙◌, subst}
 use Rattle.art.specs.Stores.{lent}
 use Rattle.lookup.specs.Looking.{looked, looked_numbers}
 use Rattle.wire.specs.Saying.{Says}
@@ -12,4 +12,4 @@ returns c =
     let a = c.args in
     let e = c.pixel.ensures.value
     ∙ (λ i. looked a.l (lent a.symbols.now a.wording.now) (record { 0 = c.word_at.ensures i }) (c.word_at-x.ensures i) (c.word_at-y.ensures i)) in
-    subst (λ o. Says (looked_numbers o) c.looked.result) e c.looked.ensures
+    record { says = subst (λ o. Says (looked_numbers o) c.looked-answer.result) e c.looked-answer.ensures; layout = refl }

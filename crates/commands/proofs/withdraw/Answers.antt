@@ -7,5 +7,5 @@ use Rattle.commands.proofs.withdraw.Goals as goal
 pub returns : goal.returns
 unfolding withdraw_told
 returns c =
-    let e = c.withdraw-o.ensures.value in
-    record { says = subst (λ o. Says (withdrawn_numbers o.answer) c.withdrawn-answer.result) e c.withdrawn-answer.ensures; layout = ap (λ o. o.layout) e }
+    let e = c.withdraw-gone.ensures.value in
+    record { says = subst (λ o. Says (withdrawn_numbers o.answer) c.withdrawn.result) e c.withdrawn.ensures; layout = ap (λ o. o.layout) e }

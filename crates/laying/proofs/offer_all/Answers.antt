@@ -1,59 +1,60 @@
+use Prim.Native.Nat.{ℕ, ◌+◌, ◌<◌}
 use native.Mathlib.Omega.{arith}
-use borrow.Author.Tests.{ltb-true}
-use Rattle.geometry.proofs.Words.{and_left, and_right}
-use Prim.Native.Nat.{◌≤◌, ◌<◌, min}
-use Rattle.laying.proofs.Offers.{not_both_under, all-offered, offers_on, offers_stop}
-use lib.Dec.{ltb}
-use lib.ListN.{length}
-use mathlib.Core.Path.{◌≡◌, refl, sym, ◌∙◌}
-use Rattle.laying.proofs.offer_all.Goals.{Start}
-use Rattle.laying.proofs.offer_all.Goals.{In-loop-k}
-use Rattle.laying.proofs.offer_all.Goals.{After-loop-k}
+use mathlib.Core.Path.{◌≡◌, sym, ap, ◌∙◌}
+use mathlib.Core.Bool.{true, false, not}
+use mathlib.Core.List.{List, [], ◌∷◌, ◌++◌}
+use lib.ListN.{length, drop, get_or, length-append}
+use borrow.Author.Rules.{rules}
+use Rattle.std.specs.Prelude.{is_ok}
+use Rattle.std.proofs.lemmas.Iterator.{YieldsList-from_slice, YieldsList-from_take}
+use Rattle.std.proofs.lemmas.Iterator.Consumers.{YieldsList-from_enumerate, YieldsList-at, YieldsList-turn, YieldsList-end}
+use Rattle.art.specs.Stores.{lent}
+use Rattle.job.specs.declared.reading.Entry.{Entry}
+use Rattle.laying.specs.Laying.{wanted, offering}
+use Rattle.laying.proofs.Offers.{numbered, offers, all_offered}
+use Rattle.laying.proofs.offer_all.Goals.{In-Some, In-None}
 use Rattle.laying.proofs.offer_all.Goals as goal
 
-long : (c : Start) → length c.args.j.entries ≡ 256
-long c = c.well_formed.1.1.1.0.1.1.1.1.1.0.1.0.1
+-- the image of this turn
+turn : (c : In-Some)
+    → (length c.loop-k.yielded < length (numbered c.args.j))
+    × ◌≡◌ {A = ℕ × Entry} (c.in-Some.k, c.in-Some.entry.now) (get_or (numbered c.args.j) (length c.loop-k.yielded) (c.in-Some.k, c.in-Some.entry.now))
+turn c =
+    YieldsList-turn
+    (YieldsList-at c.into_iter-k-iterator.ensures.into_iter_gives
+    (YieldsList-from_enumerate
+    (YieldsList-at c.enumerate-k-items.ensures.source (YieldsList-from_take c.args.j.count (YieldsList-at c.take.ensures.source (YieldsList-from_slice c.args.j.entries c.iter.ensures.rest)) c.take.ensures.count))
+    c.enumerate-k-items.ensures.count))
+    c.loop-k.yielded c.loop-k.k-iterator c.loop-k.yielded_by c.next.result c.next.new.self (c.in-Some.k, c.in-Some.entry) c.in-Some.is c.next.ensures.steps
 
--- the loop's test
-under : (c : In-loop-k) → (c.loop-k.k < c.args.j.count) × (c.loop-k.k < 256)
-under c =
-    let k = c.loop-k.k in
-    let n = c.args.j.count in
-    (ltb-true k n (and_left (ltb k n) (ltb k 256) c.loop-k-test.true), ltb-true k 256 (and_right (ltb k n) (ltb k 256) c.loop-k-test.true))
+pub returns-then-is_err : goal.returns-then-is_err
+returns-then-is_err c =
+    let t = turn (goal.at.returns-then-is_err c).In-Some in
+    let stops : is_ok c.offer_one-next.result.answer ≡ false = c.is_err.ensures.negation ∙ ap not c.if-is_err.true in
+    sym (c.loop-k.invariant.2 ∙ offers (lent c.args.stores) c.args.j c.loop-k.layout (length c.loop-k.yielded) c.in-Some.k c.in-Some.entry.now t.0 t.1 c.offer_one-next.ensures stops)
 
-pub loop-k-init : goal.loop-k-init
-loop-k-init c = (omega arith, refl)
-
-pub offset_bounds-j-k : goal.offset_bounds-j-k
-offset_bounds-j-k c = let p = (under c).1 in omega arith
-
-pub bounds-j-k : goal.bounds-j-k
-bounds-j-k c = (under c).1
-
-pub returns-then-not-goes_on : goal.returns-then-not-goes_on
-returns-then-not-goes_on c =
-    let u = under (goal.at.returns-then-not-goes_on c).In-loop-k in
-    offers_stop _ _ (long (goal.at.returns-then-not-goes_on c).Start) _ _ _ u.0 u.1 c.offer_one-next.ensures (sym c.goes_on.ensures ∙ c.if-not-goes_on.true) ∙ c.loop-k.invariant.1
-
-pub overflow_add-k : goal.overflow_add-k
-overflow_add-k c = let u = (under (goal.at.overflow_add-k c).In-loop-k).1 in omega arith
-
-pub loop-k-smaller : goal.loop-k-smaller
-loop-k-smaller c = let u = (under (goal.at.loop-k-smaller c).In-loop-k).1 in omega arith
+grown : {A : Type 0} (xs : List A) (x : A) → length (xs ++ x ∷ []) ≡ length xs + 1
+grown xs x = omega (arith, length-append xs (x ∷ []))
 
 pub loop-k-preserved : goal.loop-k-preserved
 loop-k-preserved c =
-    let u = under (goal.at.loop-k-preserved c).In-loop-k in
-    let few = u.1 in (
-      omega arith,
-      sym (offers_on _ _ (long (goal.at.loop-k-preserved c).Start) _ _ _ u.0 u.1 c.offer_one-next.ensures (sym c.goes_on.ensures ∙ c.if-not-goes_on.false)) ∙ c.loop-k.invariant.1,
+    let t = turn (goal.at.loop-k-preserved c).In-Some in
+    let goes_on : is_ok c.offer_one-next.result.answer ≡ true = c.is_err.ensures.negation ∙ ap not c.if-is_err.false in
+    let one = grown c.loop-k.yielded (c.in-Some.k, c.in-Some.entry) in (
+      search rules,
+      search rules,
+      c.loop-k.invariant.2
+          ∙ offers (lent c.args.stores) c.args.j c.loop-k.layout (length c.loop-k.yielded) c.in-Some.k c.in-Some.entry.now t.0 t.1 c.offer_one-next.ensures goes_on
+          ∙ ap (λ (n : ℕ). offering (lent c.args.stores) n c.offer_one-next.result.layout (drop n (wanted c.args.j))) (sym one),
     )
-
--- the loop's test fails at the last image, or past the last place
-past : (c : After-loop-k) → min c.args.j.count 256 ≤ c.loop-k.k
-past c = not_both_under c.loop-k.k c.args.j.count 256 c.loop-k-test.false
 
 pub returns : goal.returns
 returns c =
-    let l = c.loop-k in
-    sym (all-offered _ _ (long (goal.at.returns c).Start) l.k l.at (past c)) ∙ l.invariant.1
+    let last =
+    YieldsList-end
+    (YieldsList-at c.into_iter-k-iterator.ensures.into_iter_gives
+    (YieldsList-from_enumerate
+    (YieldsList-at c.enumerate-k-items.ensures.source (YieldsList-from_take c.args.j.count (YieldsList-at c.take.ensures.source (YieldsList-from_slice c.args.j.entries c.iter.ensures.rest)) c.take.ensures.count))
+    c.enumerate-k-items.ensures.count))
+    c.loop-k.yielded c.loop-k.k-iterator c.loop-k.yielded_by c.next.result c.next.new.self c.in-None.is c.next.ensures.steps in
+    sym (c.loop-k.invariant.2 ∙ all_offered (lent c.args.stores) c.args.j c.loop-k.layout (length c.loop-k.yielded) last.1)

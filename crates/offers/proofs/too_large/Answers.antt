@@ -1,11 +1,5 @@
-use Rattle.offers.proofs.Keeping.{large_upright, large_turned, large_neither}
+use Rattle.offers.proofs.Keeping.{large-is}
 use Rattle.offers.proofs.too_large.Goals as goal
 
-pub returns-then-cell-area : goal.returns-then-cell-area
-returns-then-cell-area c = large_upright c.args.c _ _ _ c.canvas_of-area.ensures c.cell_size-cell.ensures.0 c.if-cell-area.true
-
-pub returns-then-c : goal.returns-then-c
-returns-then-c c = large_turned c.args.c _ _ _ c.canvas_of-area.ensures c.cell_size-cell.ensures.0 c.if-c.true c.if-cell-area.false
-
 pub returns : goal.returns
-returns c = large_neither c.args.c _ _ _ c.canvas_of-area.ensures c.cell_size-cell.ensures.0 c.if-c.false c.if-cell-area.false
+returns c = large-is c.args.c c.args.s _ _ _ _ _ c.canvas_of-area.ensures c.cell_size-cell.ensures.0 c.lying_size.ensures c.fits_empty-upright.ensures c.fits_empty-turned.ensures

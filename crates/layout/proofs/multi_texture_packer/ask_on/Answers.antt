@@ -9,7 +9,7 @@ use Rattle.rules.specs.Operations.{bad_size}
 use Rattle.rules.specs.Placing.{spot_on, cells_on}
 use Rattle.faithful.specs.Replay.{Skies}
 use Rattle.offers.proofs.Keeping.{sized}
-use Rattle.layout.proofs.Answering.{ask-found, ask-size, ask-page, ask_yes, ask_no}
+use Rattle.layout.proofs.Answering.{ask-found, ask-size, ask-page, ask-is}
 use Rattle.faithful.proofs.Replays.{stands_as}
 use Rattle.layout.proofs.multi_texture_packer.ask_on.Goals.{After-can_pack_on}
 use Rattle.layout.proofs.multi_texture_packer.ask_on.Goals as goal
@@ -37,8 +37,7 @@ pub can_pack_on-requires : goal.can_pack_on-requires
 can_pack_on-requires c =
     record { by_index = (_, (_, stands_as c.args.c _ _ _ _ _ _ c.canvas_of-area.ensures c.requires.skies.1.stands)); p_bound = (omega (arith, c.requires.c_value.1, c.if-pages-p.false), c.cell_size-cell.ensures.1) }
 
-pub returns-then-can_pack_on : goal.returns-then-can_pack_on
-returns-then-can_pack_on c rs sk = ask_yes rs _ _ _ (fine (goal.at.returns-then-can_pack_on c).After-can_pack_on) (omega (arith, sk.count, c.if-pages-p.false)) (found (goal.at.returns-then-can_pack_on c).After-can_pack_on rs sk ∙ c.if-can_pack_on.true)
-
 pub returns : goal.returns
-returns c rs sk = ask_no rs _ _ _ (fine (goal.at.returns c).After-can_pack_on) (omega (arith, sk.count, c.if-pages-p.false)) (found (goal.at.returns c).After-can_pack_on rs sk ∙ c.if-can_pack_on.false)
+returns c rs sk =
+    let b = (goal.at.returns c).After-can_pack_on in
+    ask-is rs _ _ _ _ (fine b) (omega (arith, sk.count, c.if-pages-p.false)) (found b rs sk)

@@ -1,5 +1,6 @@
 use Prim.Native.Nat.{◌+◌}
 use native.Mathlib.Omega.{arith}
+use Rattle.std.specs.Prelude.{Ok}
 use mathlib.Core.Path.{◌≡◌, ap, ◌∙◌}
 use lib.ListN.{length, take}
 use lib.Seq.{length-take-le}
@@ -8,6 +9,7 @@ use Rattle.commands.specs.Reading.{word}
 use Rattle.commands.specs.Taking.{words_of}
 use Rattle.script.specs.Doing.{composed_size}
 use Rattle.script.specs.Stepping.{next_at, compose_step}
+use Rattle.script.specs.declared.steps.Ended.TheVariants.{NoRoom}
 use Rattle.script.proofs.Answers.{does_stop, does_go}
 use Rattle.script.proofs.Composing.{size-at_most}
 use Rattle.script.proofs.Ways.{compose_said, compose_goes, compose_stops, compose_said-long, compose_written}
@@ -22,8 +24,8 @@ returns-then-answers-written c =
     let said = take a.written old in
     let so : length said ≡ a.written = length-take-le a.written old (omega arith) in
     let size = c.word_at-size.ensures in
-    does_stop a.written old c.stopped.result (compose_step script s (length old) said a.at a.l) 3
-    (compose_stops script s a.at a.l (length old) said (omega arith)) (ap (λ r. r.code) c.stopped.ensures)
+    does_stop a.written old (compose_step script s (length old) said a.at a.l) NoRoom
+    (compose_stops script s a.at a.l (length old) said (omega arith))
 
 pub overflow_cast-more : goal.overflow_cast-more
 overflow_cast-more c = let m = size-at_most c.compose_in-o.result c.word_at-size.result in let e = c.composed_size-more.ensures in omega arith
@@ -54,6 +56,6 @@ returns c =
     let to : a.written + 8 + c.composed_size-more.result ≡ a.written + length (compose_said script s a.at a.l) = omega arith in
     does_go a.written old _ (compose_step script s (length old) said a.at a.l) _ a.l (a.at + 36) (compose_said script s a.at a.l)
     (compose_goes script s a.at a.l (length old) said (omega arith))
-    (λ i. record { layout = a.l; next = a.at + 36; written = to i; code = 0 })
+    (λ i. Ok (record { layout = a.l; next = a.at + 36; written = to i }))
     (compose_written script s a.at a.l old a.written c.compose_in-o.result c.composed.result c.composed_size-more.result
     c.compose_in-o.ensures.value c.composed.ensures m c.compose_in-o.ensures.answers_after c.write_number.ensures (omega arith))

@@ -1,6 +1,7 @@
 use Prim.Native.Nat.{◌+◌, ◌/◌, ◌≤◌, ℕ}
 use native.Mathlib.Omega.{arith}
 use mathlib.Core.List.{List, ◌∷◌, []}
+use Rattle.std.specs.Prelude.{Ok}
 use mathlib.Core.Path.{◌≡◌, sym, ap, ◌∙◌}
 use lib.ListN.{length, take}
 use lib.Seq.{length-take-le}
@@ -11,6 +12,7 @@ use Rattle.wire.specs.Bytes.{put}
 use Rattle.commands.specs.Reading.{word, key_at}
 use Rattle.commands.specs.Taking.{words_of}
 use Rattle.script.specs.Stepping.{next_at, answer_bytes, row_step}
+use Rattle.script.specs.declared.steps.Ended.TheVariants.{NoRoom}
 use Rattle.script.proofs.Answers.{answer-long, say_fits, say_stops, does_stop, does_go, behind-answer}
 use Rattle.script.proofs.Handed.{row-short}
 use Rattle.script.proofs.bytes.row_step.Goals.{Start}
@@ -64,8 +66,8 @@ returns-then-answers-written c =
     let a = c.args in
     let n = long (goal.at.returns-then-answers-written c).After-row_of_image-part in
     let w = before (goal.at.returns-then-answers-written c).Start in
-    does_stop a.written a.answers.now c.stopped.result _ 3
-    (say_stops (length a.answers.now) (take a.written a.answers.now) a.l (next_at a.at 8) (answer_bytes (ns (goal.at.returns-then-answers-written c).Start) (part (goal.at.returns-then-answers-written c).Start)) (omega arith)) (ap (λ r. r.code) c.stopped.ensures)
+    does_stop a.written a.answers.now _ NoRoom
+    (say_stops (length a.answers.now) (take a.written a.answers.now) a.l (next_at a.at 8) (answer_bytes (ns (goal.at.returns-then-answers-written c).Start) (part (goal.at.returns-then-answers-written c).Start)) (omega arith))
 
 pub overflow_cast-size : goal.overflow_cast-size
 overflow_cast-size c = let n = short (goal.at.overflow_cast-size c).After-row_of_image-part in omega arith
@@ -84,6 +86,6 @@ returns c =
     let to : a.written + 8 + length c.row_of_image-part.result.now ≡ a.written + length (answer_bytes (ns (goal.at.returns c).Start) (part (goal.at.returns c).Start)) = omega arith in
     does_go a.written a.answers.now _ _ _ a.l (a.at + 12) (answer_bytes (ns (goal.at.returns c).Start) (part (goal.at.returns c).Start))
     (say_fits (length a.answers.now) (take a.written a.answers.now) a.l (a.at + 12) (answer_bytes (ns (goal.at.returns c).Start) (part (goal.at.returns c).Start)) (omega arith))
-    (λ i. record { layout = a.l; next = a.at + 12; written = to i; code = 0 })
+    (λ i. Ok (record { layout = a.l; next = a.at + 12; written = to i }))
     (behind-answer a.answers.now a.written (ns (goal.at.returns c).Start) (part (goal.at.returns c).Start) c.row_read-n.result (length c.row_of_image-part.result.now / 4) (numbers (goal.at.returns c).After-row_of_image-part) (ap (λ k. k / 4) same) (omega arith)
     c.write_number.ensures (c.put_bytes.ensures ∙ ap (put _ (a.written + 8)) (bytes (goal.at.returns c).After-row_of_image-part)))

@@ -1,6 +1,6 @@
 use Prim.Native.Nat.{◌+◌, ◌-◌}
 use native.Mathlib.Omega.{arith}
-use mathlib.Core.Path.{◌≡◌, sym, ◌∙◌, subst}
+use mathlib.Core.Path.{◌≡◌, refl, ◌∙◌, subst}
 use lib.ListN.{drop, length, take}
 use borrow.Author.Tests.{lt-ltb, le-ltb}
 use Rattle.art.specs.Stores.{lent}
@@ -8,7 +8,6 @@ use Rattle.compose.specs.Checking.{checked_rows, checked_numbers}
 use Rattle.wire.specs.Saying.{Says}
 use Rattle.commands.specs.Reading.{word, page_at}
 use Rattle.script.specs.Stepping.{check_past, check_numbers}
-use Rattle.script.proofs.Checks.{checks_past}
 use Rattle.script.proofs.checking.check_part.Goals as goal
 
 pub returns-then-source-e : goal.returns-then-source-e
@@ -18,7 +17,7 @@ returns-then-source-e c =
     let script = a.script.now in
     let from = c.word_at-a.ensures in
     let size = c.word_at-2.ensures in
-    checks_past _ _ c.nothing_checked.result (lt-ltb (length a.source.now) (word script a.at 9 + word script a.at 10) (omega arith)) c.nothing_checked.ensures
+    (lt-ltb (length a.source.now) (word script a.at 9 + word script a.at 10) (omega arith), refl)
 
 pub returns : goal.returns
 unfolding check_past check_numbers page_at
@@ -30,8 +29,7 @@ returns c =
     let size = c.word_at-2.ensures in
     let long : c.word_at-a.result + c.word_at-2.result - c.word_at-a.result ≡ word script a.at 10 = omega arith in
     let e = c.check_rows.ensures.value
-    ∙ (λ i. checked_rows a.l s (record { 0 = c.word_at.ensures i }) (c.background_at-background.ensures i) (c.word_at-first.ensures i) (c.word_at-rows.ensures i) (take (long i) (drop (from i) a.source.now))) in
-    record {
-      past_is = sym (le-ltb (length a.source.now) (word script a.at 9 + word script a.at 10) (omega arith));
-      says = λ f. subst (λ o. Says (checked_numbers o) c.checked-answer.result) e c.checked-answer.ensures;
-    }
+    ∙ (λ i. checked_rows a.l s (record { 0 = c.word_at.ensures i }) (c.background_at-background.ensures i) (c.word_at-first.ensures i) (c.word_at-rows.ensures i) (take (long i) (drop (from i) a.source.now))) in (
+      le-ltb (length a.source.now) (word script a.at 9 + word script a.at 10) (omega arith),
+      subst (λ o. Says (checked_numbers o) c.checked.result) e c.checked.ensures,
+    )

@@ -1,48 +1,27 @@
-use Prim.Native.Nat.{◌+◌, ◌≤◌}
+use Prim.Native.Nat.{◌≤◌}
 use native.Mathlib.Omega.{arith}
 use mathlib.Core.List.{[], ◌∷◌}
-use mathlib.Core.Path.{sym, ap, ◌∙◌}
-use lib.ListN.{get_or-eq_default, get_or}
-use Rattle.art.specs.Stores.{lent}
-use Rattle.wire.specs.Bytes.{word_at}
+use mathlib.Core.Path.{sym}
+use lib.ListN.{get_or-eq_default}
+use Rattle.commands.specs.Reading.{word}
 use Rattle.script.specs.Stepping.{check_source}
-use Rattle.script.proofs.Checks.{checks_of}
 use Rattle.script.proofs.checking.check_source.Goals as goal
 
-pub returns-then-source-eq0 : goal.returns-then-source-eq0
+pub returns-in-0 : goal.returns-in-0
 unfolding check_source
-returns-then-source-eq0 c =
-    let a = c.args in
-    let script = a.script.now in
-    let s = lent a.symbols.now a.wording.now in
-    let among = script ∷ a.said.now ∷ a.symbols.now ∷ [] in
-    checks_of script s a.at a.l (check_source script s a.said.now a.at) script c.check_part.result (ap (λ n. get_or among n a.wording.now) (sym c.word_at-source.ensures ∙ c.if-source-eq0.true)) c.check_part.ensures
+returns-in-0 c = rw (← c.word_at.ensures, c.in-0.is)
 
-pub returns-then-source-eq1 : goal.returns-then-source-eq1
+pub returns-in-1 : goal.returns-in-1
 unfolding check_source
-returns-then-source-eq1 c =
-    let a = c.args in
-    let script = a.script.now in
-    let s = lent a.symbols.now a.wording.now in
-    let among = script ∷ a.said.now ∷ a.symbols.now ∷ [] in
-    checks_of script s a.at a.l (check_source script s a.said.now a.at) a.said.now c.check_part-then-source-eq1.result (ap (λ n. get_or among n a.wording.now) (sym c.word_at-source.ensures ∙ c.if-source-eq1.true)) c.check_part-then-source-eq1.ensures
+returns-in-1 c = rw (← c.word_at.ensures, c.in-1.is)
 
-pub returns-then-source-eq2 : goal.returns-then-source-eq2
+pub returns-in-2 : goal.returns-in-2
 unfolding check_source
-returns-then-source-eq2 c =
-    let a = c.args in
-    let script = a.script.now in
-    let s = lent a.symbols.now a.wording.now in
-    let among = script ∷ a.said.now ∷ a.symbols.now ∷ [] in
-    checks_of script s a.at a.l (check_source script s a.said.now a.at) a.symbols.now c.check_part-then-source-eq2.result (ap (λ n. get_or among n a.wording.now) (sym c.word_at-source.ensures ∙ c.if-source-eq2.true)) c.check_part-then-source-eq2.ensures
+returns-in-2 c = rw (← c.word_at.ensures, c.in-2.is)
 
-pub returns : goal.returns
+pub returns-in_default : goal.returns-in_default
 unfolding check_source
-returns c =
-    let a = c.args in
-    let script = a.script.now in
-    let s = lent a.symbols.now a.wording.now in
-    let among = script ∷ a.said.now ∷ a.symbols.now ∷ [] in
-    let w = c.word_at-source.ensures in
-    let past : 3 ≤ word_at script (a.at + 32) = omega arith in
-    checks_of script s a.at a.l (check_source script s a.said.now a.at) a.wording.now c.check_part-2.result (get_or-eq_default among a.wording.now past) c.check_part-2.ensures
+returns-in_default c =
+    let e = c.word_at.ensures in
+    let above : 3 ≤ word c.args.script.now c.args.at 8 = omega arith in
+    sym (get_or-eq_default (c.args.script.now ∷ c.args.said.now ∷ c.args.symbols.now ∷ []) c.args.wording.now above)

@@ -1,103 +1,137 @@
-use Prim.Native.Nat.{◌+◌, ◌*◌, ℕ}
+use Prim.Native.Nat.{◌+◌, ◌*◌}
 use native.Mathlib.Omega.{arith}
 use mathlib.Core.List.{List}
 use mathlib.Core.Path.{◌≡◌, refl, sym, ◌∙◌, subst}
 use lib.ListN.{length, take}
+use Prim.Native.Nat.{ℕ}
+use Rattle.std.specs.Prelude.{Result}
 use Rattle.art.specs.Stores.{lent}
-use Rattle.commands.specs.Taking.{words_of, There}
-use Rattle.commands.specs.Telling.{told, locate_told}
-use Rattle.commands.proofs.Counts.{there_is}
+use Rattle.commands.specs.Taking.{command_number, words_of, There}
+use Rattle.commands.specs.Telling.{Told, Tells, open_told, ask_told, offer_told, withdraw_told, size_told, pixel_told, locate_told}
+use Rattle.commands.specs.declared.command.Command.{Command}
+use Rattle.commands.specs.declared.command.Command.TheVariants.{Open, Ask, Offer, Withdraw, PageSize, Pixel, ComposeRows, CheckRows, RowOfImage, Coordinates, Set, Data}
 use Rattle.script.specs.Doing.{Does}
-use Rattle.script.specs.Stepping.{next_at, set_step, data_step, command_step}
+use Rattle.script.specs.Stepping.{next_at, telling, set_step, data_step, command_step}
+use Rattle.script.specs.declared.steps.Ended.{Ended}
 use Rattle.script.specs.declared.steps.Step.{Step}
 use Rattle.script.proofs.Answers.{does_as, does_quiet}
-use Rattle.script.proofs.Ways.{first_six_step, telling-is, quiet_set, quiet_data}
-use Rattle.script.proofs.running.run_command.Goals.{Start}
+use Rattle.script.proofs.Ways.{telling-is, quiet_set, quiet_data}
+use Rattle.script.proofs.running.run_command.Goals.{Start, in-Open, in-Ask, in-Offer, in-Withdraw, in-PageSize, in-Pixel, in-Coordinates}
 use Rattle.script.proofs.running.run_command.Goals as goal
 
--- `run_command` runs the command that the number names. Assumes nothing.
--- what the function does for the command of a number
-abbrev Runs : (c : Start) → ℕ → List ℕ → Step → Type 0
-Runs c n new r =
-    Does (command_step c.args.script.now (lent c.args.symbols.now c.args.wording.now) (length c.args.answers.now) (take c.args.written c.args.answers.now) c.args.at c.args.l n)
+-- `run_command` runs the command. Assumes nothing.
+-- what the function does for a command
+abbrev Runs : (c : Start) → Command → List ℕ → Result Step Ended → Type 0
+Runs c k new r =
+    Does (command_step c.args.script.now (lent c.args.symbols.now c.args.wording.now) (length c.args.answers.now) (take c.args.written c.args.answers.now) c.args.at c.args.l (command_number k))
     c.args.written c.args.answers.now new r
 
-known : (c : Start) (k : ℕ) (new : List ℕ) (r : Step) → c.args.command ≡ k → Runs c k new r → Runs c c.args.command new r
-known c k new r e h = subst (λ (n : ℕ). Runs c n new r) (sym e) h
+known : (c : Start) (k : Command) (new : List ℕ) (r : Result Step Ended) → c.args.command ≡ k → Runs c k new r → Runs c c.args.command new r
+known c k new r e h = subst (λ (n : Command). Runs c n new r) (sym e) h
 
-there : (c : Start) (k : ℕ) → c.args.command ≡ k → There c.args.script.now c.args.at (words_of k)
-there c k e = there_is c.args.script.now c.args.at c.args.command k e c.requires.command_bound.1
+there : (c : Start) (k : Command) → c.args.command ≡ k → There c.args.script.now c.args.at (words_of (command_number k))
+there c k e = subst (λ (n : Command). There c.args.script.now c.args.at (words_of (command_number n))) e c.requires.command_bound
 
-pub returns-then-command-lt6 : goal.returns-then-command-lt6
-unfolding next_at
-returns-then-command-lt6 c =
-    let a = c.args in
-    let t = c.first_six-o.ensures in
-    let words = c.words_of.ensures in
-    let next : a.at + 4 + 4 * c.words_of.result ≡ a.at + 4 * (1 + words_of a.command) = omega arith in
-    let s = lent a.symbols.now a.wording.now in
-    let said = take a.written a.answers.now in
-    let room = length a.answers.now in
-    does_as a.written a.answers.now c.say.result _ _ _
-    (first_six_step a.script.now s room said a.at a.l a.command (omega arith)
-    ∙ telling-is room said a.at a.command (told a.script.now a.at s a.l a.command) _ _ _ t.layout next t.says.words)
-    c.say.ensures
+pub open-o-requires : goal.open-o-requires
+unfolding words_of
+open-o-requires c = let h = there (goal.at.open-o-requires c).Start Open c.in-Open.is in omega arith
+
+pub ask-o-requires : goal.ask-o-requires
+unfolding words_of
+ask-o-requires c = let h = there (goal.at.ask-o-requires c).Start Ask c.in-Ask.is in omega arith
+
+pub offer-o-requires : goal.offer-o-requires
+unfolding words_of
+offer-o-requires c = let h = there (goal.at.offer-o-requires c).Start Offer c.in-Offer.is in omega arith
+
+pub page_size-o-requires : goal.page_size-o-requires
+unfolding words_of
+page_size-o-requires c = let h = there (goal.at.page_size-o-requires c).Start PageSize c.in-PageSize.is in omega arith
+
+pub pixel-o-requires : goal.pixel-o-requires
+unfolding words_of
+pixel-o-requires c = let h = there (goal.at.pixel-o-requires c).Start Pixel c.in-Pixel.is in omega arith
+
+pub coordinates-o-requires : goal.coordinates-o-requires
+unfolding words_of
+coordinates-o-requires c = let h = there (goal.at.coordinates-o-requires c).Start Coordinates c.in-Coordinates.is in omega arith
 
 pub compose_step-requires : goal.compose_step-requires
 unfolding words_of
-compose_step-requires c = let h = there (goal.at.compose_step-requires c).Start 6 (omega arith) in (omega arith, c.requires.written_in_bounds)
+compose_step-requires c = let h = there (goal.at.compose_step-requires c).Start ComposeRows c.in-ComposeRows.is in (omega arith, c.requires.written_in_bounds)
 
-pub returns-then-command-lt7 : goal.returns-then-command-lt7
+pub returns-in-ComposeRows : goal.returns-in-ComposeRows
 unfolding command_step
-returns-then-command-lt7 c = known (goal.at.returns-then-command-lt7 c).Start 6 _ _ (omega arith) c.compose_step.ensures
+returns-in-ComposeRows c = known (goal.at.returns-in-ComposeRows c).Start ComposeRows _ _ c.in-ComposeRows.is c.compose_step.ensures
 
 pub check_step-requires : goal.check_step-requires
 unfolding words_of
-check_step-requires c = let h = there (goal.at.check_step-requires c).Start 7 (omega arith) in (omega arith, c.requires.written_in_bounds)
+check_step-requires c = let h = there (goal.at.check_step-requires c).Start CheckRows c.in-CheckRows.is in (omega arith, c.requires.written_in_bounds)
 
-pub returns-then-command-lt8 : goal.returns-then-command-lt8
+pub returns-in-CheckRows : goal.returns-in-CheckRows
 unfolding command_step
-returns-then-command-lt8 c = known (goal.at.returns-then-command-lt8 c).Start 7 _ _ (omega arith) c.check_step.ensures
+returns-in-CheckRows c = known (goal.at.returns-in-CheckRows c).Start CheckRows _ _ c.in-CheckRows.is c.check_step.ensures
 
 pub row_step-requires : goal.row_step-requires
 unfolding words_of
-row_step-requires c = let h = there (goal.at.row_step-requires c).Start 8 (omega arith) in (omega arith, c.requires.written_in_bounds)
+row_step-requires c = let h = there (goal.at.row_step-requires c).Start RowOfImage c.in-RowOfImage.is in (omega arith, c.requires.written_in_bounds)
 
-pub returns-then-command-lt9 : goal.returns-then-command-lt9
+pub returns-in-RowOfImage : goal.returns-in-RowOfImage
 unfolding command_step
-returns-then-command-lt9 c = known (goal.at.returns-then-command-lt9 c).Start 8 _ _ (omega arith) c.row_step.ensures
-
-pub coordinates-requires : goal.coordinates-requires
-unfolding words_of
-coordinates-requires c = let h = there (goal.at.coordinates-requires c).Start 9 (omega arith) in omega arith
-
-pub returns-then-command-lt10 : goal.returns-then-command-lt10
-unfolding command_step next_at words_of locate_told
-returns-then-command-lt10 c =
-    let a = c.args in
-    known (goal.at.returns-then-command-lt10 c).Start 9 _ _ (omega arith)
-    (does_as a.written a.answers.now c.say-then-command-lt10.result _ _ _
-    (telling-is (length a.answers.now) (take a.written a.answers.now) a.at 9 (locate_told a.script.now a.at a.l) a.l (a.at + 16) _ refl refl c.coordinates.ensures.words)
-    c.say-then-command-lt10.ensures)
+returns-in-RowOfImage c = known (goal.at.returns-in-RowOfImage c).Start RowOfImage _ _ c.in-RowOfImage.is c.row_step.ensures
 
 pub set_step-requires : goal.set_step-requires
 unfolding words_of
-set_step-requires c = let h = there (goal.at.set_step-requires c).Start 10 (omega arith) in omega arith
+set_step-requires c = let h = there (goal.at.set_step-requires c).Start Set c.in-Set.is in omega arith
 
-pub returns-then-command-lt11 : goal.returns-then-command-lt11
+pub returns-in-Set : goal.returns-in-Set
 unfolding command_step
-returns-then-command-lt11 c =
+returns-in-Set c =
     let a = c.args in
-    known (goal.at.returns-then-command-lt11 c).Start 10 _ _ (omega arith)
+    known (goal.at.returns-in-Set c).Start Set _ _ c.in-Set.is
     (does_quiet a.written a.answers.now c.set_step.result (set_step a.script.now a.at a.l) (quiet_set a.script.now a.at a.l) c.set_step.ensures)
 
 pub data_step-requires : goal.data_step-requires
 unfolding words_of
-data_step-requires c = let h = there (goal.at.data_step-requires c).Start 11 (omega arith) in omega arith
+data_step-requires c = let h = there (goal.at.data_step-requires c).Start Data c.in-Data.is in omega arith
+
+pub returns-in-Data : goal.returns-in-Data
+unfolding command_step
+returns-in-Data c =
+    let a = c.args in
+    known (goal.at.returns-in-Data c).Start Data _ _ c.in-Data.is
+    (does_quiet a.written a.answers.now c.data_step.result (data_step a.script.now a.at a.l) (quiet_data a.script.now a.at a.l) c.data_step.ensures)
 
 pub returns : goal.returns
-unfolding command_step
+unfolding command_step next_at
 returns c =
     let a = c.args in
-    known (goal.at.returns c).Start 11 _ _ (omega arith)
-    (does_quiet a.written a.answers.now c.data_step.result (data_step a.script.now a.at a.l) (quiet_data a.script.now a.at a.l) c.data_step.ensures)
+    let script = a.script.now in
+    let s = lent a.symbols.now a.wording.now in
+    let room = length a.answers.now in
+    let said = take a.written a.answers.now in
+    let words = c.words.ensures.value in
+    let next : a.at + 4 + 4 * c.words.result ≡ a.at + 4 * (1 + words_of (command_number a.command)) = omega arith in
+    let tells = λ (t : Told) (k : Command) (e : a.command ≡ k)
+    (q : command_step script s room said a.at a.l (command_number k) ≡ telling room said a.at (command_number k) t) (h : Tells t c.match-command.o).
+    does_as a.written a.answers.now c.say.result _ _ _
+    (subst (λ (n : Command). command_step script s room said a.at a.l (command_number n) ≡ telling room said a.at (command_number n) t) (sym e) q
+    ∙ telling-is room said a.at (command_number a.command) t _ _ _ h.layout next h.says.words)
+    c.say.ensures
+    in
+    elim c.match-command.branch [
+      | in-Open w ↦
+          let t = open_told script a.at in tells t Open w.in-Open.is refl (subst (λ o. Tells t o) (sym w.o-is) w.open-o.ensures)
+      | in-Ask w ↦
+          let t = ask_told script a.at a.l in tells t Ask w.in-Ask.is refl (subst (λ o. Tells t o) (sym w.o-is) w.ask-o.ensures)
+      | in-Offer w ↦
+          let t = offer_told script a.at s a.l in tells t Offer w.in-Offer.is refl (subst (λ o. Tells t o) (sym w.o-is) w.offer-o.ensures)
+      | in-Withdraw w ↦
+          let t = withdraw_told a.l in tells t Withdraw w.in-Withdraw.is refl (subst (λ o. Tells t o) (sym w.o-is) w.withdraw-o.ensures)
+      | in-PageSize w ↦
+          let t = size_told script a.at a.l in tells t PageSize w.in-PageSize.is refl (subst (λ o. Tells t o) (sym w.o-is) w.page_size-o.ensures)
+      | in-Pixel w ↦
+          let t = pixel_told script a.at s a.l in tells t Pixel w.in-Pixel.is refl (subst (λ o. Tells t o) (sym w.o-is) w.pixel-o.ensures)
+      | in-Coordinates w ↦
+          let t = locate_told script a.at a.l in tells t Coordinates w.in-Coordinates.is refl (subst (λ o. Tells t o) (sym w.o-is) w.coordinates-o.ensures)
+    ]

@@ -2,6 +2,8 @@ use native.Mathlib.Omega.{arith}
 use mathlib.Core.Path.{ap, ◌∙◌}
 use lib.ListN.{length}
 use Rattle.art.specs.Stores.{lent}
+use Rattle.wire.specs.Bytes.{put}
+use Rattle.script.specs.Stepping.{end_bytes}
 use Rattle.script.proofs.Going.{going_start, going_long, ended, goes, unchanged, stops}
 use Rattle.script.proofs.running.run_commands.Goals as goal
 
@@ -13,8 +15,8 @@ loop-at-init c =
     let a = c.args in
     going_start a.script.now (lent a.symbols.now a.wording.now) a.answers.now c.blank-l.result c.blank-l.ensures c.requires
 
-pub step-s-requires : goal.step-s-requires
-step-s-requires c =
+pub step-requires : goal.step-requires
+step-requires c =
     let a = c.args in
     let s = lent a.symbols.now a.wording.now in
     let k = c.loop-at in
@@ -28,17 +30,18 @@ finish-requires c =
     let s = lent a.symbols.now a.wording.now in
     let k = c.loop-at in
     let n = going_long a.script.now s a.answers.now k.answers k.l k.at k.written k.invariant in
-    let m = ap length (unchanged a.script.now s a.answers.now k.answers k.l k.at k.written k.invariant c.loop-at-test.true _ c.step-s.result c.step-s.ensures c.if-code-ne0.true) in
+    let m = ap length (unchanged a.script.now s a.answers.now k.answers k.l k.at k.written k.invariant c.loop-at-test.true _ c.in-Err.ended c.in-Err.ensures) in
     let r = k.invariant.room in
     omega arith
 
-pub returns-then-code-ne0 : goal.returns-then-code-ne0
-returns-then-code-ne0 c =
+pub returns-in-Err : goal.returns-in-Err
+returns-in-Err c =
     let a = c.args in
     let s = lent a.symbols.now a.wording.now in
     let k = c.loop-at in
     let f = c.finish.ensures in
-    let e = stops a.script.now s a.answers.now k.answers k.l k.at k.written k.invariant c.loop-at-test.true _ c.step-s.result c.step-s.ensures c.if-code-ne0.true f.1 in
+    let code = f.1 ∙ ap (λ n. put c.step.new.answers k.written (end_bytes n k.at)) c.from.ensures in
+    let e = stops a.script.now s a.answers.now k.answers k.l k.at k.written k.invariant c.loop-at-test.true _ c.in-Err.ended c.in-Err.ensures code in
     record { value = f.0 ∙ e.0; answers_after = e.1 }
 
 pub loop-at-smaller : goal.loop-at-smaller
@@ -46,7 +49,7 @@ loop-at-smaller c =
     let a = c.args in
     let s = lent a.symbols.now a.wording.now in
     let k = c.loop-at in
-    let o = (goes a.script.now s a.answers.now k.answers k.l k.at k.written k.invariant c.loop-at-test.true _ c.step-s.result c.step-s.ensures c.if-code-ne0.false).1 in
+    let o = (goes a.script.now s a.answers.now k.answers k.l k.at k.written k.invariant c.loop-at-test.true _ c.in-Ok.s c.in-Ok.ensures).1 in
     omega arith
 
 pub loop-at-preserved : goal.loop-at-preserved
@@ -54,7 +57,7 @@ loop-at-preserved c =
     let a = c.args in
     let s = lent a.symbols.now a.wording.now in
     let k = c.loop-at in
-    (goes a.script.now s a.answers.now k.answers k.l k.at k.written k.invariant c.loop-at-test.true _ c.step-s.result c.step-s.ensures c.if-code-ne0.false).0
+    (goes a.script.now s a.answers.now k.answers k.l k.at k.written k.invariant c.loop-at-test.true _ c.in-Ok.s c.in-Ok.ensures).0
 
 pub finish-requires-2 : goal.finish-requires-2
 finish-requires-2 c =

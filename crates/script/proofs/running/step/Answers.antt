@@ -1,18 +1,19 @@
-use Prim.Native.Nat.{◌+◌, ℕ}
+use Prim.Native.Nat.{◌+◌}
 use native.Mathlib.Omega.{arith}
 use mathlib.Core.Path.{◌≡◌, sym, ap, ◌∙◌}
 use lib.ListN.{length, take}
+use borrow.Author.Rules.{rules}
+use Rattle.std.specs.Prelude.{Err}
 use Rattle.art.specs.Stores.{lent}
 use Rattle.wire.specs.Bytes.{word_at}
 use Rattle.commands.specs.Reading.{word}
-use Rattle.commands.proofs.Counts.{few_words}
-use Rattle.script.specs.Doing.{Does}
-use Rattle.script.specs.Stepping.{Stepped, Stops, next_at, stepped}
-use Rattle.script.specs.declared.steps.Step.{Step}
+use Rattle.commands.specs.Taking.{command_number}
+use Rattle.script.specs.Stepping.{Stepped, next_at, stepped}
+use Rattle.script.specs.declared.steps.Ended.TheVariants.{Unknown, CutShort}
 use Rattle.script.proofs.Answers.{does_stop, does_as}
 use Rattle.script.proofs.Ways.{step-none, step_unknown, step_cut, step-runs}
 use Rattle.script.proofs.running.step.Goals.{Start}
-use Rattle.script.proofs.running.step.Goals.{After-word_at-command}
+use Rattle.script.proofs.running.step.Goals.{After-word_at}
 use Rattle.script.proofs.running.step.Goals as goal
 
 -- `step` stops at no command and at a command that is cut short. Assumes nothing.
@@ -20,37 +21,50 @@ use Rattle.script.proofs.running.step.Goals as goal
 abbrev here : (c : Start) → Stepped
 here c = stepped c.args.script.now (lent c.args.symbols.now c.args.wording.now) (length c.args.answers.now) (take c.args.written c.args.answers.now) c.args.at c.args.l
 
-ends : (c : Start) (r : Step) (code : ℕ) → here c ≡ Stops code → r ≡ record { layout = c.args.l; next = 0; written = 0; code = code }
-    → Does (here c) c.args.written c.args.answers.now c.args.answers.now r
-ends c r code e h = does_stop c.args.written c.args.answers.now r (here c) code e (ap (λ (s : Step). s.code) h)
-
 -- the command's word
-is : (c : After-word_at-command) → word c.args.script.now c.args.at 0 ≡ c.word_at-command.result
+is : (c : After-word_at) → word c.args.script.now c.args.at 0 ≡ c.word_at.result
 is c =
     let a = c.args in
     let z : a.at + 0 ≡ a.at = omega arith in
-    ap (word_at a.script.now) z ∙ sym c.word_at-command.ensures
+    ap (word_at a.script.now) z ∙ sym c.word_at.ensures
 
 pub returns-then-left-lt4 : goal.returns-then-left-lt4
-returns-then-left-lt4 c = ends (goal.at.returns-then-left-lt4 c).Start c.stopped.result 2 (step-none c.args.script.now (lent c.args.symbols.now c.args.wording.now) _ _ c.args.at c.args.l (omega arith)) c.stopped.ensures
+returns-then-left-lt4 c =
+    let a = c.args in
+    does_stop a.written a.answers.now (here (goal.at.returns-then-left-lt4 c).Start) CutShort
+    (step-none a.script.now (lent a.symbols.now a.wording.now) _ _ a.at a.l (omega arith))
 
-pub returns-then-command-gt11 : goal.returns-then-command-gt11
-returns-then-command-gt11 c = ends (goal.at.returns-then-command-gt11 c).Start c.stopped-then-command-gt11.result 1 (step_unknown c.args.script.now (lent c.args.symbols.now c.args.wording.now) _ _ c.args.at c.args.l c.word_at-command.result (is (goal.at.returns-then-command-gt11 c).After-word_at-command) (omega arith) (omega arith)) c.stopped-then-command-gt11.ensures
+pub returns-in_err-command : goal.returns-in_err-command
+returns-in_err-command c =
+    let a = c.args in
+    let result : c.from_residual.result ≡ Err Unknown = search rules in
+    let none = c.in_err-command.ensures in
+    rw result
+    (does_stop a.written a.answers.now (here (goal.at.returns-in_err-command c).Start) Unknown
+    (step_unknown a.script.now (lent a.symbols.now a.wording.now) _ _ a.at a.l c.word_at.result (is (goal.at.returns-in_err-command c).After-word_at) (omega arith) (omega (arith, none))))
 
-pub overflow_mul-words_of : goal.overflow_mul-words_of
-overflow_mul-words_of c = let w = few_words c.word_at-command.result in let e = c.words_of.ensures in omega arith
+pub overflow_mul-words : goal.overflow_mul-words
+overflow_mul-words c = let e = c.words.ensures.few in omega arith
 
-pub returns-then-left-words_of : goal.returns-then-left-words_of
+pub returns-then-left-words : goal.returns-then-left-words
 unfolding next_at
-returns-then-left-words_of c =
-    let e = c.words_of.ensures in
-    ends (goal.at.returns-then-left-words_of c).Start c.stopped-then-left-words_of.result 2
-    (step_cut c.args.script.now (lent c.args.symbols.now c.args.wording.now) _ _ c.args.at c.args.l c.word_at-command.result (is (goal.at.returns-then-left-words_of c).After-word_at-command) (omega arith) (omega arith) (omega arith)) c.stopped-then-left-words_of.ensures
+returns-then-left-words c =
+    let a = c.args in
+    let n = command_number c.in_ok-command.command in
+    let e = c.words.ensures.value in
+    let names = c.in_ok-command.ensures.0 in
+    let below = c.in_ok-command.ensures.1 in
+    does_stop a.written a.answers.now (here (goal.at.returns-then-left-words c).Start) CutShort
+    (step_cut a.script.now (lent a.symbols.now a.wording.now) _ _ a.at a.l n (is (goal.at.returns-then-left-words c).After-word_at ∙ sym names) (omega arith) (omega arith) (omega arith))
 
 pub returns : goal.returns
 unfolding next_at
 returns c =
     let a = c.args in
-    let e = c.words_of.ensures in
+    let n = command_number c.in_ok-command.command in
+    let e = c.words.ensures.value in
+    let names = c.in_ok-command.ensures.0 in
+    let below = c.in_ok-command.ensures.1 in
     does_as a.written a.answers.now c.run_command.result (here (goal.at.returns c).Start) _ _
-    (step-runs c.args.script.now (lent c.args.symbols.now c.args.wording.now) _ _ c.args.at c.args.l c.word_at-command.result (is (goal.at.returns c).After-word_at-command) (omega arith) (omega arith) (omega arith)) c.run_command.ensures
+    (step-runs a.script.now (lent a.symbols.now a.wording.now) _ _ a.at a.l n (is (goal.at.returns c).After-word_at ∙ sym names) (omega arith) (omega arith) (omega arith))
+    c.run_command.ensures

@@ -1,6 +1,7 @@
 use Prim.Native.Nat.{◌+◌, ◌*◌}
 use native.Mathlib.Omega.{arith}
-use mathlib.Core.Path.{◌≡◌, ap}
+use Rattle.std.specs.Prelude.{Ok}
+use mathlib.Core.Path.{◌≡◌, refl}
 use lib.ListN.{length}
 use borrow.Author.Tests.{lt-ltb, le-ltb}
 use Rattle.wire.specs.Bytes.{word_at}
@@ -13,7 +14,7 @@ unfolding data_step next_at words_of
 returns-then-left-n c =
     let a = c.args in
     let n = c.word_at-n.ensures in
-    rw (lt-ltb (length a.script.now) (a.at + 8 + 4 * word_at a.script.now (a.at + 4)) (omega arith)) (ap (λ s. s.code) c.stopped.ensures)
+    rw (lt-ltb (length a.script.now) (a.at + 8 + 4 * word_at a.script.now (a.at + 4)) (omega arith)) refl
 
 pub returns : goal.returns
 unfolding data_step next_at words_of
@@ -21,4 +22,4 @@ returns c =
     let a = c.args in
     let n = c.word_at-n.ensures in
     let w : a.written ≡ a.written + 0 = omega arith in
-    rw (le-ltb (length a.script.now) (a.at + 8 + 4 * word_at a.script.now (a.at + 4)) (omega arith)) (λ i. record { layout = a.l; next = a.at + 8 + 4 * n i; written = w i; code = 0 })
+    rw (le-ltb (length a.script.now) (a.at + 8 + 4 * word_at a.script.now (a.at + 4)) (omega arith)) (λ i. Ok (record { layout = a.l; next = a.at + 8 + 4 * n i; written = w i }))

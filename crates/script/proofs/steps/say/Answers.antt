@@ -1,10 +1,12 @@
 use Prim.Native.Nat.{ℕ, ◌+◌, ◌*◌}
 use native.Mathlib.Omega.{arith}
 use mathlib.Core.List.{List, []}
-use mathlib.Core.Path.{◌≡◌, ap}
+use mathlib.Core.Path.{◌≡◌}
+use Rattle.std.specs.Prelude.{Ok}
 use lib.ListN.{length, take}
 use lib.Seq.{length-take-le}
 use borrow.Author.Rules.{rules}
+use Rattle.script.specs.declared.steps.Ended.TheVariants.{NoRoom}
 use Rattle.script.specs.Stepping.{answer_bytes}
 use Rattle.script.proofs.Answers.{answer-long, say_fits, say_stops, does_stop, does_go}
 use Rattle.script.proofs.steps.say.Goals.{Start}
@@ -31,8 +33,8 @@ returns-then-answers-written c =
     let a = c.args in
     let n = long (goal.at.returns-then-answers-written c).Start in
     let w = before (goal.at.returns-then-answers-written c).Start in
-    does_stop a.written a.answers.now c.stopped.result _ 3
-    (say_stops (length a.answers.now) (take a.written a.answers.now) a.l a.next (bytes (goal.at.returns-then-answers-written c).Start) (omega arith)) (ap (λ s. s.code) c.stopped.ensures)
+    does_stop a.written a.answers.now _ NoRoom
+    (say_stops (length a.answers.now) (take a.written a.answers.now) a.l a.next (bytes (goal.at.returns-then-answers-written c).Start) (omega arith))
 
 pub returns : goal.returns
 returns c =
@@ -42,4 +44,4 @@ returns c =
     let e = c.write_answer-to.ensures in
     does_go a.written a.answers.now _ _ _ a.l a.next (bytes (goal.at.returns c).Start)
     (say_fits (length a.answers.now) (take a.written a.answers.now) a.l a.next (bytes (goal.at.returns c).Start) (omega arith))
-    (λ i. record { layout = a.l; next = a.next; written = e.value i; code = 0 }) e.answers_after
+    (λ i. Ok (record { layout = a.l; next = a.next; written = e.value i })) e.answers_after

@@ -1,6 +1,7 @@
 use Prim.Native.Nat.{◌+◌}
 use native.Mathlib.Omega.{arith}
-use mathlib.Core.Path.{◌≡◌, sym, ap, ◌∙◌}
+use Rattle.std.specs.Prelude.{Ok}
+use mathlib.Core.Path.{◌≡◌, refl, sym, ap, ◌∙◌}
 use Rattle.wire.specs.Fields.{is_field, layout_with}
 use Rattle.commands.specs.Taking.{words_of}
 use Rattle.script.specs.Stepping.{next_at, set_step}
@@ -12,7 +13,7 @@ returns-then-not-is_field c =
     let a = c.args in
     let f = c.is_field.ensures ∙ ap is_field c.word_at-field.ensures in
     let none = sym f ∙ c.if-not-is_field.true in
-    rw none (ap (λ s. s.code) c.stopped.ensures)
+    rw none refl
 
 pub returns : goal.returns
 unfolding set_step next_at words_of
@@ -22,4 +23,4 @@ returns c =
     let some = sym f ∙ c.if-not-is_field.false in
     let l = c.layout_with-after.ensures ∙ (λ i. layout_with a.l (c.word_at-field.ensures i) (c.word_at-place.ensures i) (c.word_at-n.ensures i)) in
     let w : a.written ≡ a.written + 0 = omega arith in
-    rw some (λ i. record { layout = l i; next = a.at + 16; written = w i; code = 0 })
+    rw some (λ i. Ok (record { layout = l i; next = a.at + 16; written = w i }))

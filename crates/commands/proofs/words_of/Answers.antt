@@ -1,7 +1,0 @@
-use mathlib.Core.Path.{refl}
-use Rattle.commands.specs.Taking.{words_of}
-use Rattle.commands.proofs.words_of.Goals as goal
-
-pub returns : goal.returns
-unfolding words_of
-returns c = refl

@@ -1,7 +1,0 @@
-use mathlib.Core.Path.{refl}
-use Rattle.rules.specs.Operations.{with_record}
-use Rattle.offers.proofs.with_record.Goals as goal
-
-pub returns : goal.returns
-unfolding with_record
-returns c = refl

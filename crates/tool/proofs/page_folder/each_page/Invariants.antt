@@ -1,8 +1,0 @@
-use Rattle.std.proofs.Common.{◌-◌, ◌≤◌}
-use Rattle.tool.proofs.page_folder.each_page.Given as goal
-
-abbrev pub invariant-loop-n : goal.invariant-loop-n
-invariant-loop-n g l = l.n ≤ 8
-
-abbrev pub decreases-loop-n : goal.decreases-loop-n
-decreases-loop-n g l = 8 - l.n
