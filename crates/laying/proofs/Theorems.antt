@@ -14,9 +14,8 @@ use Rattle.rules.proofs.Story.{Demand3}
 use Rattle.rules.proofs.Theorems.{demand_3_opened}
 use Rattle.job.specs.declared.reading.Entry.{Entry}
 use Rattle.job.specs.declared.reading.Job.{Job}
-use Rattle.std.specs.Prelude.{⊤, Result, Ok, is_ok}
+use Rattle.std.specs.Prelude.{Ok, is_ok}
 use Rattle.laying.specs.Laying.{Laid, wanted, offered_one, offering, after_open, laid_out}
-use Rattle.laying.specs.declared.Stop.{Stop}
 
 -- the job's images as calls
 abbrev pub calls : Stores → List Entry → List Call

@@ -12,18 +12,13 @@ ghost use Rattle.compose.specs.Checking.{checked_numbers};
 ghost use Rattle.coords.specs.Coordinates.{located_numbers};
 ghost use Rattle.wire.specs.Saying.{Says};
 
-use compose::checking::Checked;
-use compose::image_exporter::Composed;
-use coords::locate::Located;
-use geometry::spot;
-use lookup::image_row::Read;
-use lookup::texture_packer::Looked;
-use records::layout::{Opened, Sized};
-use records::refusal;
+use art::memory_rgba8_texture::Pixel;
+use coords::locate::{Located, Position};
+use geometry::rect::Size;
 use records::refusal::Refusal;
 use rules::multi_texture_packer::{Asked, Offered, Withdrawn};
 
-// The first `count` of the words.
+// The first `count` of the words: no answer has more than eight, and the core's memory is fixed.
 #[derive(Clone, Copy)]
 pub struct Answer {
     pub count: usize,
@@ -45,15 +40,15 @@ fn said<const N: usize>(words: [u32; N]) -> Answer
 fn refused(r: Refusal) -> Answer
     ensures { Says (number_of r ∷ []) result }
 {
-    said([refusal::number_of(r)])
+    said([u32::from(r)])
 }
 
-pub fn opened(o: Opened) -> Answer
+pub fn opened(o: Result<(), Refusal>) -> Answer
     ensures { Says (opened_numbers o) result }
 {
     match o {
-        Opened::Done => said([0]),
-        Opened::Refused(r) => refused(r),
+        Ok(()) => said([0]),
+        Err(r) => refused(r),
     }
 }
 
@@ -61,9 +56,9 @@ pub fn asked(o: Asked) -> Answer
     ensures { Says (asked_numbers o) result }
 {
     match o {
-        Asked::Yes => said([0, 1]),
-        Asked::No => said([0, 0]),
-        Asked::Refused(r) => refused(r),
+        Ok(true) => said([0, 1]),
+        Ok(false) => said([0, 0]),
+        Err(r) => refused(r),
     }
 }
 
@@ -71,11 +66,11 @@ pub fn offered(o: Offered) -> Answer
     ensures { Says (offered_numbers o) result }
 {
     match o {
-        Offered::Placed(p, f, t) => {
-            let turn = spot::turn_number(t);
-            said([0, p.0, f.x, f.y, f.w, f.h, turn])
+        Ok(p) => {
+            let f = p.frame;
+            said([0, p.page.0, f.x, f.y, f.w, f.h, u32::from(p.turn)])
         }
-        Offered::Refused(r) => refused(r),
+        Err(r) => refused(r),
     }
 }
 
@@ -83,55 +78,48 @@ pub fn withdrawn(o: Withdrawn) -> Answer
     ensures { Says (withdrawn_numbers o) result }
 {
     match o {
-        Withdrawn::Gone(k) => said([0, k.0]),
-        Withdrawn::Refused(r) => refused(r),
+        Ok(key) => said([0, key.0]),
+        Err(r) => refused(r),
     }
 }
 
-pub fn sized(o: Sized) -> Answer
+pub fn sized(o: Result<Size, Refusal>) -> Answer
     ensures { Says (sized_numbers o) result }
 {
     match o {
-        Sized::Is(s) => said([0, s.w, s.h]),
-        Sized::Refused(r) => refused(r),
+        Ok(size) => said([0, size.w, size.h]),
+        Err(r) => refused(r),
     }
 }
 
-pub fn looked(o: Looked) -> Answer
+pub fn looked(o: Result<Option<Pixel>, Refusal>) -> Answer
     ensures { Says (looked_numbers o) result }
 {
     match o {
-        Looked::Shows(k) => said([0, 1, k.r as u32, k.g as u32, k.b as u32, k.a as u32]),
-        Looked::NoPixel => said([0, 0]),
-        Looked::Refused(r) => refused(r),
+        Ok(Some(k)) => said([0, 1, k.r as u32, k.g as u32, k.b as u32, k.a as u32]),
+        Ok(None) => said([0, 0]),
+        Err(r) => refused(r),
     }
 }
 
-pub fn composed(o: Composed) -> u32
-    ensures { composed_numbers o ≡ result ∷ [] }
+// The one number of an operation that is answered by bytes.
+pub fn number(o: Result<(), Refusal>) -> u32
+    ensures composed { composed_numbers o ≡ result ∷ [] }
+    ensures read { read_numbers o ≡ result ∷ [] }
 {
     match o {
-        Composed::Done => 0,
-        Composed::Refused(r) => refusal::number_of(r),
+        Ok(()) => 0,
+        Err(r) => u32::from(r),
     }
 }
 
-pub fn checked(o: Checked) -> Answer
+pub fn checked(o: Result<Option<(u32, u32)>, Refusal>) -> Answer
     ensures { Says (checked_numbers o) result }
 {
     match o {
-        Checked::Same => said([0]),
-        Checked::Differs(x, y) => said([0, x, y]),
-        Checked::Refused(r) => refused(r),
-    }
-}
-
-pub fn row_read(o: Read) -> u32
-    ensures { read_numbers o ≡ result ∷ [] }
-{
-    match o {
-        Read::Done => 0,
-        Read::Refused(r) => refusal::number_of(r),
+        Ok(None) => said([0]),
+        Ok(Some((x, y))) => said([0, x, y]),
+        Err(r) => refused(r),
     }
 }
 
@@ -149,14 +137,14 @@ pub fn located(o: Located) -> Answer
     ensures { Says (located_numbers o) result }
 {
     match o {
-        Located::Pixels(f) => said([0, 0, f.x, f.y, f.w, f.h]),
-        Located::Texels(c) => {
+        Ok(Position::Pixels(f)) => said([0, 0, f.x, f.y, f.w, f.h]),
+        Ok(Position::Texels(c)) => {
             let left = bits_of(c.left);
             let top = bits_of(c.top);
             let right = bits_of(c.right);
             let bottom = bits_of(c.bottom);
             said([0, 1, left, top, right, bottom])
         }
-        Located::Refused(r) => refused(r),
+        Err(r) => refused(r),
     }
 }

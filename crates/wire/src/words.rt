@@ -16,12 +16,12 @@ pub fn put_word(bytes: &mut [u8], at: usize, n: u32)
     put_bytes(bytes, at, &n.to_le_bytes());
 }
 
-// The first `count` of these words, from byte `at` on.
-pub fn put_words(bytes: &mut [u8], at: usize, words: [u32; 8], count: usize)
-    requires { (count ≤ 8) × (at + 4 * count ≤ length bytes.old) }
-    ensures { bytes.new ≡ put bytes.old at (words_bytes (take count words)) }
+// These words, from byte `at` on.
+pub fn put_words(bytes: &mut [u8], at: usize, words: &[u32])
+    requires { at + 4 * length words.now ≤ length bytes.old }
+    ensures { bytes.new ≡ put bytes.old at (words_bytes words.now) }
 {
-    for (i, n) in words[..count].iter().enumerate() {
+    for (i, n) in words.iter().enumerate() {
         put_word(bytes, at + 4 * i, *n);
     }
 }

@@ -3,7 +3,6 @@ use native.Mathlib.Omega.{arith}
 use mathlib.Core.Path.{◌≡◌, sym, ap, ◌∙◌}
 use lib.ListN.{length, take, get_or}
 use lib.Seq.{length-take-le}
-use borrow.Author.Rules.{rules}
 use Rattle.wire.specs.Bytes.{word_bytes, words_bytes, put}
 use Rattle.wire.proofs.Putting.{put-none, put-behind, word-long, words_long, words_more}
 use Rattle.wire.proofs.words.put_words.Goals as goal
@@ -16,9 +15,7 @@ pub loop-i-preserved : goal.loop-i-preserved
 loop-i-preserved c =
     let l = c.loop-i in
     let a = c.args in
-    let items = take a.count a.words in
-    let eight : length a.words ≡ 8 = search rules in
-    let long = length-take-le a.count a.words (omega arith) in
+    let items = a.words.now in
     let k = length-take-le l.i items (omega arith) in
     let so = words_bytes (take l.i items) in
     let e = words_long (take l.i items) in
