@@ -1,9 +1,10 @@
 // A layout, by value: bounds and blanks, well-formed, the page count, keys; and the operations that need no more: open, page size.
-ghost use Rattle.std.specs.Prelude.{◌≡◌, true, ◌+◌, ◌≤◌, ◌<◌, max};
+ghost use Rattle.std.specs.Prelude.{◌≡◌, MatchOption, true, ◌+◌, ◌≤◌, ◌<◌, max};
+ghost use Rattle.std.proofs.Math.Option.{none, some};
 ghost use Rattle.geometry.specs.Words.{all};
 ghost use Rattle.records.specs.Settings.{in_bounds, empty_layout};
 ghost use Rattle.records.specs.Records.{is_blank, record_well_formed};
-ghost use Rattle.records.specs.Layouts.{standing, unused, well_formed, on_page, page_count, key_place, ends_of, size_of_page};
+ghost use Rattle.records.specs.Layouts.{standing, unused, well_formed, record_of, on_page, page_count, key_place, ends_of, size_of_page};
 ghost use Rattle.records.specs.Operations.{opened, opened_numbers, page_sized, sized_numbers};
 
 use crate::frame::{Key, Page, Record};
@@ -26,6 +27,14 @@ impl Layout {
         ensures { result.now ≡ standing self.now }
     {
         &self.records[..self.count]
+    }
+
+    // The earliest record that has a key.
+    pub fn named(&self, key: Key) -> Option<&Record>
+        requires { well_formed self.now ≡ true }
+        ensures { MatchOption result (record_of self.now key ≡ none) (λ r. record_of self.now key ≡ some r.now) }
+    {
+        self.standing().iter().find(|r| r.key == key)
     }
 }
 

@@ -129,12 +129,12 @@ module _ (f : ℕ → ℕ) (area : Size) (rotation : Bool) (cell : Size) (s : �
       rw t (ep ∙ ap (choice o) ea ∙ sym (best_end area (choice o (fitted area up))) ∙ sym (best_one area o up []))
 
   pub try_turned : (o a p b r : Option Spot) → rotation ≡ true → a ≡ fitted area (spot_at f area.w Upright cell s) → p ≡ choice o a
-      → b ≡ fitted area (spot_at f area.w Turned (record { w = cell.h; h = cell.w }) s) → r ≡ choice p b
+      → b ≡ fitted area (spot_at f area.w Turned (lying Turned cell) s) → r ≡ choice p b
       → r ≡ best_of rank o (fitting_at f area rotation cell s)
   unfolding fitting_at orientations lying
   try_turned o a p b r t ea ep eb er =
       let up = spot_at f area.w Upright cell s in
-      let side = spot_at f area.w Turned (record { w = cell.h; h = cell.w }) s in
+      let side = spot_at f area.w Turned (lying Turned cell) s in
       rw t (er ∙ ap (choice p) eb ∙ ap (λ (q : Option Spot). choice q (fitted area side)) (ep ∙ ap (choice o) ea)
       ∙ sym (best_end area (choice (choice o (fitted area up)) (fitted area side)))
       ∙ sym (best_one area (choice o (fitted area up)) side [])
