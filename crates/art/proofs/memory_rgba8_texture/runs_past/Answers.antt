@@ -16,8 +16,5 @@ size_is c = ap length (bytes_now _ _ _ c.of-size.ensures)
 pub returns-then-size-offset : goal.returns-then-size-offset
 returns-then-size-offset c = sym (past_offset _ _ _ (size_is (goal.at.returns-then-size-offset c).After-of-size) c.if-size-offset.true)
 
-pub overflow_mul-area : goal.overflow_mul-area
-overflow_mul-area c = record { fits = area-fits _ _ (search rules) (search rules) }
-
 pub returns : goal.returns
 returns c = past_area _ _ _ (size_is (goal.at.returns c).After-of-size) (omega arith)

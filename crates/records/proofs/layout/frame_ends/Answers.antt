@@ -65,11 +65,3 @@ loop-r-preserved c =
     ] in
     let more = take_next c.standing-standing.result.now blank_record c.loop-r.r-index c.loop-r-test.true in
     (ends_more_w b p _ _ r more c.loop-r.invariant.0 w, ends_more_h b p _ _ r more c.loop-r.invariant.1 h)
-
-pub returns : goal.returns
-returns c =
-    let rest = take_all c.loop-r.r-index c.standing-standing.result.now c.loop-r-test.false ∙ c.standing-standing.ensures in
-    let ends : List Record → Size = λ rs. ends_of c.args.l.config.border (on_page c.args.page.0 rs) in
-    let w = c.loop-r.invariant.0 ∙ ap (λ rs. (ends rs).w) rest in
-    let h = c.loop-r.invariant.1 ∙ ap (λ rs. (ends rs).h) rest in
-    λ i. record { w = w i; h = h i }

@@ -26,6 +26,3 @@ loop-r-preserved c =
     let r = get_or c.standing-standing.result.now c.loop-r.r-index blank_record in
     let e : c.max-pages.result ≡ max c.loop-r.pages (r.page.0 + 1) = search rules in
     count_more _ _ r (take_next _ _ _ c.loop-r-test.true) c.loop-r.invariant e
-
-pub returns : goal.returns
-returns c = c.loop-r.invariant ∙ ap page_count (take_all _ _ c.loop-r-test.false ∙ c.standing-standing.ensures)
