@@ -1,9 +1,8 @@
-use borrow.Author.Rules.{rules}
 use mathlib.Core.Path.{◌≡◌, sym, ap}
 use native.Mathlib.Omega.{arith}
 use lib.ListN.{length}
 use Rattle.art.specs.Stores.{lent, bytes_of}
-use Rattle.art.proofs.Places.{bytes_now, area-fits, past_offset, past_area}
+use Rattle.art.proofs.Places.{bytes_now, past_offset, past_area}
 use Rattle.art.proofs.memory_rgba8_texture.runs_past.Goals.{After-of-size}
 use Rattle.art.proofs.memory_rgba8_texture.runs_past.Goals as goal
 

@@ -1,16 +1,11 @@
 use Rattle.std.proofs.Common.{rules}
 use Prim.Native.Nat.{◌+◌, max}
 use native.Mathlib.Omega.{arith}
-use mathlib.Core.Path.{◌≡◌, sym, ap, ◌∙◌}
-use mathlib.Core.List.{List}
+use mathlib.Core.Path.{◌≡◌, sym, ◌∙◌}
 use lib.Dec.{eqb}
-use Rattle.geometry.specs.declared.rect.Size.{Size}
-use Rattle.records.specs.declared.frame.Record.{Record}
 use lib.ListN.{get_or}
-use lib.Seq.{take_all}
 use Rattle.records.specs.Ends.{end_at, grows}
 use Rattle.records.specs.Settings.{blank_record}
-use Rattle.records.specs.Layouts.{on_page, ends_of}
 use Rattle.records.proofs.Checks.{Good, framed, formed, stands-good}
 use Rattle.records.proofs.Pages.{Ends, ends-few, ends-none_w, ends-none_h, ends_more_w, ends_more_h, grows-not, grows_by}
 use Rattle.records.proofs.Standing.{take_next}

@@ -1,11 +1,9 @@
 use Rattle.std.proofs.Common.{rules}
 use Prim.Native.Nat.{◌+◌, max}
 use native.Mathlib.Omega.{arith}
-use mathlib.Core.Path.{◌≡◌, sym, ap, ◌∙◌}
+use mathlib.Core.Path.{◌≡◌, sym}
 use lib.ListN.{get_or}
-use lib.Seq.{take_all}
 use Rattle.records.specs.Settings.{blank_record}
-use Rattle.records.specs.Layouts.{page_count}
 use Rattle.records.proofs.Checks.{formed, stands-good}
 use Rattle.records.proofs.Pages.{count_none, count_more}
 use Rattle.records.proofs.Standing.{take_next}
