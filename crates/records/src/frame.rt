@@ -1,10 +1,10 @@
 // A standing image's record, after frame.rs of texture_packer, with the page, the store and the offset that the crate keeps elsewhere.
-ghost use Rattle.std.specs.Prelude.{◌≡◌, true};
-ghost use Rattle.records.specs.Settings.{in_bounds, blank_record};
+ghost use Rattle.std.specs.Prelude.{◌≡◌};
+ghost use Rattle.records.specs.Settings.{blank_record};
 ghost use Rattle.records.specs.Records.{is_blank, whole_of, box_of, image_of, lies_in, box_inside, record_well_formed};
 
 use crate::texture_packer_config;
-use crate::texture_packer_config::Config;
+use crate::texture_packer_config::InBounds;
 use art::memory_rgba8_texture::{Image, Store};
 use geometry::rect::{Rect, Size};
 use geometry::spot;
@@ -132,10 +132,10 @@ pub fn box_inside(k: Rect, whole: Size) -> bool
     lies_in(k.x, k.w, whole.w) & lies_in(k.y, k.h, whole.h)
 }
 
-pub fn record_ok(c: Config, r: Record) -> bool
-    requires { in_bounds c ≡ true }
-    ensures { result ≡ record_well_formed c r }
+pub fn record_ok(c: InBounds, r: Record) -> bool
+    ensures { result ≡ record_well_formed c.config r }
 {
+    let c = c.config;
     let f = r.frame;
     let b = c.border;
     let kept = box_of(r);

@@ -1,5 +1,5 @@
 // The configuration, after texture_packer_config.rs of texture_packer, with the limits of pages and images beside it.
-ghost use Rattle.std.specs.Prelude.{◌≡◌};
+ghost use Rattle.std.specs.Prelude.{◌≡◌, MatchOption, true, false};
 ghost use Rattle.geometry.specs.Words.{within};
 ghost use Rattle.records.specs.Settings.{in_bounds, blank_config};
 
@@ -24,17 +24,30 @@ pub fn is_within(a: u32, b: u32, n: u32) -> bool
     (a..=b).contains(&n)
 }
 
-#[tactic(auto, unfolding(crate::specs::Settings::in_bounds, geometry::specs::Words::all_of))]
-pub fn in_bounds(c: Config) -> bool
-    ensures { result ≡ in_bounds c }
-{
-    is_within(1, 4096, c.maxw)
-        & is_within(1, 4096, c.maxh)
-        & (c.padding <= 64)
-        & (c.border <= 64)
-        & (c.extrusion <= 16)
-        & is_within(1, 8, c.pages)
-        & is_within(1, 256, c.images)
+// A configuration that was tested: its numbers are in bounds. Whoever makes one proves it.
+#[derive(Clone, Copy)]
+pub struct InBounds {
+    pub config: Config,
+    pub ghost tested: { in_bounds config ≡ true },
+}
+
+impl Config {
+    #[tactic(auto, unfolding(crate::specs::Settings::in_bounds, geometry::specs::Words::all_of))]
+    pub fn in_bounds(self) -> Option<InBounds>
+        ensures { MatchOption result (in_bounds self ≡ false) (λ c. c.config ≡ self) }
+    {
+        let tested = is_within(1, 4096, self.maxw)
+            & is_within(1, 4096, self.maxh)
+            & (self.padding <= 64)
+            & (self.border <= 64)
+            & (self.extrusion <= 16)
+            & is_within(1, 8, self.pages)
+            & is_within(1, 256, self.images);
+        if tested {
+            return Some(InBounds { config: self });
+        }
+        None
+    }
 }
 
 #[tactic(auto, unfolding(crate::specs::Settings::blank_config))]

@@ -9,15 +9,15 @@ use Rattle.records.specs.Settings.{blank_record}
 use Rattle.records.proofs.Checks.{Good, framed, formed, stands-good}
 use Rattle.records.proofs.Pages.{Ends, ends-few, ends-none_w, ends-none_h, ends_more_w, ends_more_h, grows-not, grows_by}
 use Rattle.records.proofs.Standing.{take_next}
-use Rattle.records.proofs.layout.frame_ends.Goals.{In-loop-r, then-eq, else-eq}
-use Rattle.records.proofs.layout.frame_ends.Goals as goal
+use Rattle.records.proofs.layout.WellFormed.frame_ends.Goals.{In-loop-r, then-eq, else-eq}
+use Rattle.records.proofs.layout.WellFormed.frame_ends.Goals as goal
 
 -- each record that stands is good, and ends within bounds
-good : (c : In-loop-r) → Good c.args.l.config (get_or c.standing-standing.result.now c.loop-r.r-index blank_record)
-good c = stands-good _ c.requires _ c.standing-standing.ensures c.loop-r.r-index c.loop-r-test.true
+good : (c : In-loop-r) → Good c.args.self.layout.now.config (get_or c.standing-standing.result.now c.loop-r.r-index blank_record)
+good c = stands-good _ c.args.self.tested _ c.standing-standing.ensures c.loop-r.r-index c.loop-r-test.true
 
-few : (c : In-loop-r) → Ends c.args.l.config.border (get_or c.standing-standing.result.now c.loop-r.r-index blank_record)
-few c = ends-few _ (formed _ c.requires) (good c)
+few : (c : In-loop-r) → Ends c.args.self.layout.now.config.border (get_or c.standing-standing.result.now c.loop-r.r-index blank_record)
+few c = ends-few _ (formed _ c.args.self.tested) (good c)
 
 pub loop-r-init : goal.loop-r-init
 loop-r-init c = (sym (ends-none_w _ _), sym (ends-none_h _ _))
@@ -42,7 +42,7 @@ pub loop-r-preserved : goal.loop-r-preserved
 unfolding blank_record
 loop-r-preserved c =
     let r = get_or c.standing-standing.result.now c.loop-r.r-index blank_record in
-    let b = c.args.l.config.border in
+    let b = c.args.self.layout.now.config.border in
     let p = c.args.page.0 in
     let on = eqb r.page.0 p in
     let s = framed _ _ (good (goal.at.loop-r-preserved c).In-loop-r) in

@@ -1,7 +1,7 @@
 use mathlib.Core.Path.{◌≡◌}
 use lib.ListN.{take}
 use Rattle.records.specs.Layouts.{page_count}
-use Rattle.records.proofs.layout.page_count.Given as goal
+use Rattle.records.proofs.layout.WellFormed.page_count.Given as goal
 
 -- `page_count` has counted the pages of the records that it has passed. Assumes nothing.
 abbrev pub invariant-loop-r : goal.invariant-loop-r

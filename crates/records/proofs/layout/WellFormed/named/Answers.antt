@@ -9,7 +9,7 @@ use Rattle.geometry.specs.Words.{earliest}
 use Rattle.records.specs.Layouts.{has_key, record_of}
 use Rattle.records.specs.declared.frame.Record.{Record}
 use Rattle.records.proofs.Keys.{first_named}
-use Rattle.records.proofs.layout.Layout.named.Goals as goal
+use Rattle.records.proofs.layout.WellFormed.named.Goals as goal
 
 pub returns : goal.returns
 unfolding has_key record_of

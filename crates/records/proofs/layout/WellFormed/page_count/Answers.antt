@@ -7,13 +7,13 @@ use Rattle.records.specs.Settings.{blank_record}
 use Rattle.records.proofs.Checks.{formed, stands-good}
 use Rattle.records.proofs.Pages.{count_none, count_more}
 use Rattle.records.proofs.Standing.{take_next}
-use Rattle.records.proofs.layout.page_count.Goals as goal
+use Rattle.records.proofs.layout.WellFormed.page_count.Goals as goal
 
 pub overflow_add-r : goal.overflow_add-r
 unfolding blank_record
 overflow_add-r c =
-    let g = stands-good _ c.requires _ c.standing-standing.ensures c.loop-r.r-index c.loop-r-test.true in
-    omega (arith, g.page, (formed _ c.requires).config.pages_few)
+    let g = stands-good _ c.args.self.tested _ c.standing-standing.ensures c.loop-r.r-index c.loop-r-test.true in
+    omega (arith, g.page, (formed _ c.args.self.tested).config.pages_few)
 
 pub loop-r-init : goal.loop-r-init
 loop-r-init c = sym count_none

@@ -1,7 +1,7 @@
 use mathlib.Core.Path.{◌≡◌}
 use lib.ListN.{take}
 use Rattle.records.specs.Layouts.{on_page, ends_of}
-use Rattle.records.proofs.layout.frame_ends.Given as goal
+use Rattle.records.proofs.layout.WellFormed.frame_ends.Given as goal
 
 -- `frame_ends` has the ends of the page's frames among the records that it has passed. Assumes nothing.
 abbrev pub invariant-loop-r : goal.invariant-loop-r
