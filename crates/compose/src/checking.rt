@@ -1,5 +1,5 @@
 // Check rows: the auditor's check. It reads the lent page bytes themselves, and writes nothing.
-ghost use Rattle.std.specs.Prelude.{◌≡◌, true, false, ℕ, ◌+◌, ◌*◌, ◌≤◌, length};
+ghost use Rattle.std.specs.Prelude.{◌≡◌, true, false, ℕ, ◌+◌, ◌*◌, ◌<◌, ◌≤◌, length, MatchOption};
 ghost use Rattle.art.specs.Stores.{lent, pixel_from};
 ghost use Rattle.art.specs.declared.memory_rgba8_texture.Pixel.{Pixel};
 ghost use Rattle.art.specs.Trimming.{first_seen};
@@ -28,18 +28,19 @@ fn same_pixel(a: &[u8], i: usize, b: &[u8], j: usize) -> bool
     memory_rgba8_texture::pixel_from(a, 4 * i) == memory_rgba8_texture::pixel_from(b, 4 * j)
 }
 
-// The first of the w pixels from pixel number `base` on that is not the same in both; or w.
-fn first_off(shown: &[u8], wanted: &[u8], base: usize, w: u32) -> u32
+// The first of the w pixels from pixel number `base` on that is not the same in both.
+fn first_off(shown: &[u8], wanted: &[u8], base: usize, w: u32) -> Option<u32>
     requires { (4 * (base + w) ≤ length shown.now) × (4 * (base + w) ≤ length wanted.now) }
-    ensures { result ≡ first_seen (off_at shown.now wanted.now base) w }
+    ensures { MatchOption result (first_seen (off_at shown.now wanted.now base) w ≡ w)
+        (λ x. (x < w) × (x ≡ first_seen (off_at shown.now wanted.now base) w)) }
 {
     for x in 0..w {
         let i = base + x as usize;
         if !same_pixel(shown, i, wanted, i) {
-            return x;
+            return Some(x);
         }
     }
-    w
+    None
 }
 
 // The lent rows, one after the other, against the wanted ones, which are the page's from row `first` on.
@@ -50,8 +51,7 @@ fn compare_rows(shown: &[u8], wanted: &[u8], w: u32, first: u32, rows: u32) -> O
     for v in 0..rows {
         let y = first + v;
         let base = v as usize * w as usize;
-        let x = first_off(shown, wanted, base, w);
-        if x < w {
+        if let Some(x) = first_off(shown, wanted, base, w) {
             return Some((x, y));
         }
     }

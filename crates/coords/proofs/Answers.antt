@@ -21,9 +21,9 @@ use Rattle.records.specs.declared.refusal.Refusal.{Refusal}
 use Rattle.records.specs.declared.refusal.Refusal.TheVariants.{NotWellFormed, NoSuchKey, BadInset, PastPage}
 use Rattle.records.proofs.Rows.{hit, skipped, none_left, at_in}
 use Rattle.records.proofs.Checks.{Good, formed}
-use Rattle.records.proofs.Keys.{named as named_by, stands-below}
+use Rattle.records.proofs.Keys.{named as named_by, stands-below, keyed}
 use Rattle.records.proofs.Pages.{ends-few, side_w, side_h}
-use Rattle.coords.specs.Coordinates.{Located, nought, corners, named_page_size, between, past_edge, wanted, locate_row, locate_refusal, locate_answer, located}
+use Rattle.coords.specs.Coordinates.{nought, corners, named_page_size, between, past_edge, wanted, locate_row, locate_refusal, locate_answer, located}
 use Rattle.coords.specs.Parts.{Countable, texel_answer, requested}
 use Rattle.coords.specs.declared.locate.Request.{Request}
 use Rattle.coords.specs.declared.locate.Position.TheVariants.{Pixels, Texels}
@@ -109,23 +109,22 @@ module _ (l : Layout) (k : Key) (q : Request) where
       ap (locate_answer (wanted q (record_named l k).frame (named_page_size l k)))
       (skipped (not (well_formed l)) NotWellFormed _ (ap not e) ∙ skipped (not (any (has_key k) (standing l))) NoSuchKey _ (ap not t))
 
--- ## the same, as the code reads them: r at the key's place, s its page's size
+-- ## the same, as the code reads them: the record that the key names, and its page's size
 
-module _ (l : Layout) (k : Key) (e : well_formed l ≡ true) (h : key_place k (standing l) < length (standing l))
-    (r : Record) (s : Size) (p : r ≡ placed l k) (z : s ≡ size_of_page l r.page)
-  where
-    frame_is_lem : (record_named l k).frame ≡ r.frame
-    frame_is_lem = ap (λ (n : Record). n.frame) (names l k h ∙ sym p)
+module _ (l : Layout) (k : Key) (e : well_formed l ≡ true) (r : Record) (n : record_of l k ≡ some r) (s : Size) (z : s ≡ size_of_page l r.page) where
+  is_named : record_named l k ≡ r
+  is_named = (keyed l k n).1
 
-    page-is : named_page_size l k ≡ s
-    unfolding named_page_size
-    page-is = ap (λ (n : Record). size_of_page l n.page) (names l k h ∙ sym p) ∙ sym z
+  page-is : named_page_size l k ≡ s
+  unfolding named_page_size
+  page-is = ap (λ (q : Record). size_of_page l q.page) is_named ∙ sym z
 
-    stands : any (has_key k) (standing l) ≡ true
-    stands = (named_by k (standing l) h).stands
+  pub read_countable : Countable r.frame s
+  read_countable =
+      subst (λ (t : Size). Countable r.frame t) page-is
+      (subst (λ (q : Record). Countable q.frame (named_page_size l k)) is_named (countable l k e (keyed l k n).0))
 
-    pub read_countable : Countable r.frame s
-    read_countable = subst (λ (t : Size). Countable r.frame t) page-is (subst (λ (f : Rect). Countable f (named_page_size l k)) frame_is_lem (countable l k e stands))
-
-    pub read_found : (q : Request) {a : Located} → a ≡ requested q r.frame s → a ≡ located l k q
-    read_found q g = g ∙ sym (found l k q e stands ∙ ap (λ (f : Rect). requested q f (named_page_size l k)) frame_is_lem ∙ ap (requested q r.frame) page-is)
+  pub read_found : (q : Request) → requested q r.frame s ≡ located l k q
+  read_found q =
+      sym
+      (found l k q e (keyed l k n).0 ∙ ap (λ (p : Record). requested q p.frame (named_page_size l k)) is_named ∙ ap (requested q r.frame) page-is)

@@ -111,11 +111,9 @@ pub fn coordinates(l: Layout, key: Key, request: Request) -> Located
     if !layout::well_formed(l) {
         return Err(Refusal::NotWellFormed);
     }
-    let at = layout::find_key(l, key);
-    if l.count <= at {
+    let Some(r) = l.named(key) else {
         return Err(Refusal::NoSuchKey);
-    }
-    let r = l.records[at];
+    };
     let s = layout::size_of_page(l, r.page);
     answer_request(request, r.frame, s)
 }

@@ -1,10 +1,10 @@
 -- Document 01's examples 10 and 11, and lines of our own that take one layout through all the operations: beside what is computed stands
 -- what it must be, the number and the values of each answer. Sizes at the front are the maxima; f32 numbers are given by their bits.
 -- Assumes nothing.
-use Rattle.std.specs.Prelude.{ℕ, ◌*◌, ◌^◌, true, false, List, [], ◌∷◌, ◌++◌, map, replicate, set}
+use Rattle.std.specs.Prelude.{ℕ, ◌*◌, ◌^◌, true, false, List, [], ◌∷◌, ◌++◌, map, replicate, set, Some, None}
 use Rattle.geometry.specs.Words.{from, flat}
 use Rattle.geometry.specs.declared.spot.Turn.TheVariants.{Upright, Turned}
-use Rattle.art.specs.Stores.{Stores, lent}
+use Rattle.art.specs.Stores.{Stores, holding as stores_of}
 use Rattle.art.specs.declared.memory_rgba8_texture.Store.TheVariants.{Symbols, Wording}
 use Rattle.records.specs.Samples.{settings, rect, source, made, layout_numbers}
 use Rattle.records.specs.declared.texture_packer_config.Config.{Config}
@@ -13,9 +13,7 @@ use Rattle.records.specs.declared.layout.Layout.{Layout}
 use Rattle.rules.specs.Story.{filled, Call, Offer, Withdraw}
 use Rattle.rules.specs.TableWords.{Line, plain, limited, rotating, trimming, key, image, clear, symbols, offer_of, offer, ask, answers_from, answers, page_after, at, turned_at, it_fits, it_does_not, gone_key, sides, refused, whole}
 use Rattle.lookup.specs.TableWords.{counting, across, shown, nothing, row, refused_row}
-use Rattle.paint.specs.declared.background.Background.{Background}
-use Rattle.paint.specs.declared.background.Background.TheVariants.{Clear, Colour}
-use Rattle.paint.specs.declared.background.Threshold.TheVariants.{AtMost}
+use Rattle.paint.specs.Backgrounds.{Background}
 use Rattle.coords.specs.Bits.{decoded}
 use Rattle.coords.specs.Table.{answer as coordinates, inset, frame_is, numbers_are}
 use Rattle.coords.specs.declared.locate.Request.TheVariants.{Pixels, Edges}
@@ -108,7 +106,7 @@ all_set = settings 16 8 1 2 1 2 4 true true false false
 -- symbols: 6x2, all visible, and 3x3 of which (1,0) and (1,1) are; wording: after three bytes 4x5 of which columns 2 and 3 of rows 1 to 3 are
 unfoldable pub drawn : Stores
 drawn =
-    lent (from 1 48 ++ clear 1 ++ from 201 4 ++ clear 2 ++ from 205 4 ++ clear 4)
+    stores_of (from 1 48 ++ clear 1 ++ from 201 4 ++ clear 2 ++ from 205 4 ++ clear 4)
     (9 ∷ 9 ∷ 9 ∷ clear 6 ++ from 101 8 ++ clear 2 ++ from 109 8 ++ clear 2 ++ from 117 8 ++ clear 4)
 
 unfoldable pub three_offers : List Call
@@ -139,7 +137,7 @@ unfoldable pub opaque : ℕ → List ℕ
 opaque n = from n 3 ++ 255 ∷ []
 
 unfoldable pub painted : Background
-painted = Colour (pixel 50 60 70 80) (AtMost 24) true
+painted = Some (record { pixel = pixel 50 60 70 80; threshold = Some 24; discard = true })
 
 -- rows 2 and 3 of page 0: of the second image row 0 has alpha 4 to 24, row 1 alpha 28 to 48
 unfoldable pub row_two : List (List ℕ)
@@ -167,7 +165,7 @@ shown_on l =
     ∷ (
       checks l drawn painted 0 2 2 two_rows
           ∷ checks l drawn painted 0 2 2 (set (set two_rows 112 0) 103 254)
-          ∷ checks l drawn Clear 0 2 2 two_rows
+          ∷ checks l drawn None 0 2 2 two_rows
           ∷ [],
       same ∷ off 9 3 ∷ off 0 2 ∷ [],
     )

@@ -1,7 +1,7 @@
 -- The examples of document 01 that are to be proved together, 1 to 9, in its order and under its words: beside what is computed stands what
 -- it must be, the number and the values of each answer. Sizes at the front are the maxima.
 -- Assumes nothing.
-use Rattle.std.specs.Prelude.{ℕ, true, false, List, [], ◌∷◌, ◌++◌, replicate}
+use Rattle.std.specs.Prelude.{ℕ, true, false, List, [], ◌∷◌, ◌++◌, replicate, Some, None}
 use Rattle.geometry.specs.Words.{from}
 use Rattle.geometry.specs.declared.spot.Turn.TheVariants.{Upright}
 use Rattle.art.specs.Stores.{Stores, turned_point}
@@ -12,9 +12,7 @@ use Rattle.records.specs.declared.layout.Layout.{Layout}
 use Rattle.rules.specs.Story.{Call, Offer}
 use Rattle.rules.specs.TableWords.{Line, plain, padded, bordered, extruded, limited, rotating, trimming, key, image, symbols, dot, offer_of, offer, answers, page_after, at, turned_at, sides, refused, made, record_numbers, record_after}
 use Rattle.lookup.specs.TableWords.{counting, at as pixel_at, shown}
-use Rattle.paint.specs.declared.background.Background.{Background}
-use Rattle.paint.specs.declared.background.Background.TheVariants.{Clear, Colour}
-use Rattle.paint.specs.declared.background.Threshold.TheVariants.{AtMost}
+use Rattle.paint.specs.Backgrounds.{Background}
 use Rattle.coords.specs.Table.{answer as coordinates}
 use Rattle.coords.specs.declared.locate.Request.TheVariants.{Edges}
 use Rattle.examples.specs.TableWords.{after, point, zone_columns, pixel, composes, holding}
@@ -126,7 +124,7 @@ unfoldable pub outlining : Config
 outlining = settings 4 4 0 0 0 8 256 false false true false
 
 unfoldable pub nines : Background
-nines = Colour (pixel 9 9 9 9) (AtMost 4) true
+nines = Some (record { pixel = pixel 9 9 9 9; threshold = Some 4; discard = true })
 
 unfoldable pub page_bytes : Config → Background → List (List ℕ)
 page_bytes c g = composes (after c (offer_of to_eight 0 2 1 ∷ [])) to_eight g 0 0 1 (replicate 8 0)
@@ -134,9 +132,9 @@ page_bytes c g = composes (after c (offer_of to_eight 0 2 1 ∷ [])) to_eight g 
 unfoldable pub ninth : List Line
 ninth =
     (page_after (plain 4 4) (offer_of to_eight 0 2 1 ∷ []) 0, sides 2 1 ∷ [])
-    ∷ (page_bytes (plain 4 4) Clear, holding (1 ∷ 2 ∷ 3 ∷ 4 ∷ 5 ∷ 6 ∷ 7 ∷ 8 ∷ []))
+    ∷ (page_bytes (plain 4 4) None, holding (1 ∷ 2 ∷ 3 ∷ 4 ∷ 5 ∷ 6 ∷ 7 ∷ 8 ∷ []))
     ∷ (page_bytes (plain 4 4) nines, holding (9 ∷ 9 ∷ 9 ∷ 9 ∷ 5 ∷ 6 ∷ 7 ∷ 255 ∷ []))
-    ∷ (page_bytes outlining Clear, holding (255 ∷ 0 ∷ 0 ∷ 255 ∷ 255 ∷ 0 ∷ 0 ∷ 255 ∷ []))
+    ∷ (page_bytes outlining None, holding (255 ∷ 0 ∷ 0 ∷ 255 ∷ 255 ∷ 0 ∷ 0 ∷ 255 ∷ []))
     ∷ []
 
 unfoldable pub table : List Line

@@ -1,6 +1,6 @@
 -- Words of the tables, beside those of the crates below: the layout after calls, and what each operation then answers of it.
 -- Assumes nothing.
-use Rattle.std.specs.Prelude.{ℕ, List, [], ◌∷◌, map}
+use Rattle.std.specs.Prelude.{ℕ, List, [], ◌∷◌, map, None}
 use Rattle.geometry.specs.Rects.{right_of}
 use Rattle.art.specs.Stores.{Stores}
 use Rattle.art.specs.declared.memory_rgba8_texture.Pixel.{Pixel}
@@ -13,8 +13,7 @@ use Rattle.rules.specs.TableWords.{key, page, offer_of, ask, answer}
 use Rattle.lookup.specs.Zones.{zone}
 use Rattle.lookup.specs.Reading.{read, read_numbers}
 use Rattle.lookup.specs.TableWords.{at as pixel_at}
-use Rattle.paint.specs.declared.background.Background.{Background}
-use Rattle.paint.specs.declared.background.Background.TheVariants.{Clear}
+use Rattle.paint.specs.Backgrounds.{Background}
 use Rattle.compose.specs.Composing.{composed_answer, composed_buffer, composed_numbers}
 use Rattle.compose.specs.Checking.{checked_rows, checked_numbers}
 use Rattle.coords.specs.Table.{answer as coordinates}
@@ -67,7 +66,7 @@ every_answer l s row =
     ∷ size_on l 0
     ∷ pixel_at l s 0 0 0
     ∷ composed_numbers (composed_answer l s (page 0) 0 1 row)
-    ∷ checks l s Clear 0 0 1 row
+    ∷ checks l s None 0 0 1 row
     ∷ read_numbers (read l s (key 0) 0)
     ∷ coordinates l 0 Edges
     ∷ []

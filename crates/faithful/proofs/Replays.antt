@@ -22,6 +22,7 @@ use Rattle.geometry.specs.Words.{all_of}
 use Rattle.geometry.specs.Placing.{height, lying, cell_at, spot_at, turn_number, grown}
 use Rattle.geometry.specs.Fits.{Fits}
 use Rattle.geometry.proofs.Theorems.{chosen_fits}
+use Rattle.pages.specs.declared.Pages.{Pages}
 use Rattle.pages.specs.Pages.{first_fitting, Stands, PutOn}
 use Rattle.records.specs.Records.{size_of, whole_of, box_of}
 use Rattle.records.specs.Layouts.{page_count}
@@ -153,9 +154,9 @@ pub box_cell : (c : Config) (r : Record) (k : Rect) (cell : Size) → k ≡ box_
 unfolding size_of
 box_cell c r k cell e h = h ∙ ap (λ (z : Rect). cell_size c (record { w = z.w; h = z.h })) e
 
-pub stands_as : (c : Config) (area : Size) (cells : ℕ → List Rect) (m : ℕ) (xs ys ns : List ℕ) → area ≡ canvas c
-    → Stands (canvas c).w cells m xs ys ns → Stands area.w cells m xs ys ns
-stands_as c area cells m xs ys ns e st = rw e st
+pub stands_as : (c : Config) (area : Size) (cells : ℕ → List Rect) (m : ℕ) (sky : Pages) → area ≡ canvas c
+    → Stands (canvas c).w cells m sky → Stands area.w cells m sky
+stands_as c area cells m sky e st = rw e st
 
 -- the page that the code finds is the rule's
 pub page-is : (c : Config) (rs : List Record) (whole area cell : Size) (p pages : ℕ) → area ≡ canvas c → cell ≡ cell_size c whole → pages ≡ page_count rs
@@ -166,18 +167,18 @@ page-is c rs whole area cell p pages ea ec ep h =
     ∙ ap (λ (z : Size). first_fitting (cells_on c rs) (canvas c) c.rotation z pages) ec
     ∙ ap (λ (z : ℕ). first_fitting (cells_on c rs) (canvas c) c.rotation (cell_size c whole) z) ep
 
-pub put_as : (c : Config) (size area cell : Size) (p m : ℕ) (cells : ℕ → List Rect) (f : Option Spot) (xs ys ns : List ℕ) → area ≡ canvas c → cell ≡ cell_size c size
-    → PutOn area c.rotation cell p m cells f xs ys ns → PutOn (canvas c) c.rotation (cell_size c size) p m cells f xs ys ns
-put_as c size area cell p m cells f xs ys ns ea ec h =
-    subst (λ (z : Size). PutOn z c.rotation (cell_size c size) p m cells f xs ys ns) ea
-    (subst (λ (z : Size). PutOn area c.rotation z p m cells f xs ys ns) ec h)
+pub put_as : (c : Config) (size area cell : Size) (p m : ℕ) (cells : ℕ → List Rect) (f : Option Spot) (sky : Pages) → area ≡ canvas c → cell ≡ cell_size c size
+    → PutOn area c.rotation cell p m cells f sky → PutOn (canvas c) c.rotation (cell_size c size) p m cells f sky
+put_as c size area cell p m cells f sky ea ec h =
+    subst (λ (z : Size). PutOn z c.rotation (cell_size c size) p m cells f sky) ea
+    (subst (λ (z : Size). PutOn area c.rotation z p m cells f sky) ec h)
 
 -- ## one step of the replay
 
 module _ (c : Config) (rs : List Record) (r : Record) (g : Good c r) where
-  pub replay_elsewhere : (p pages : ℕ) (xs ys ns : List ℕ) → p ≡ page_for c rs (whole_of r) → (r.page.0 ≡ p → ⊥) → Replayed c rs r false xs ys ns
+  pub replay_elsewhere : (p pages : ℕ) (sky : Pages) → p ≡ page_for c rs (whole_of r) → (r.page.0 ≡ p → ⊥) → Replayed c rs r false sky
   unfolding placed art_of
-  replay_elsewhere p pages xs ys ns e n = record {
+  replay_elsewhere p pages sky e n = record {
     same = same_elsewhere c r (page_for c rs (whole_of r)) (spot_on c (cells_on c rs (page_for c rs (whole_of r))) (size_of (box_of r))) (λ q. n (q ∙ sym e));
     after = λ q. let z : ◌≡◌ {A = ℕ} 0 1 = cc in absurd (omega arith);
   }
@@ -196,15 +197,15 @@ module _ (c : Config) (rs : List Record) (r : Record) (g : Good c r) where
   after-all None e s = let n = same_none c r r.page.0 in let z : ◌≡◌ {A = ℕ} 0 1 = cc in absurd (omega arith)
   after-all (Some k) e s = grown-here k (sym e) s
 
-  pub replay_here : (p : ℕ) (f : Option Spot) (so : Bool) (xs ys ns : List ℕ) → p ≡ page_for c rs (whole_of r) → r.page.0 ≡ p
-      → PutOn (canvas c) c.rotation (cell_size c (size_of (box_of r))) p (length rs) (cells_on c rs) f xs ys ns
-      → so ≡ same_spot r (record_for c (art_of r) r.page.0 f) → Replayed c rs r so xs ys ns
+  pub replay_here : (p : ℕ) (f : Option Spot) (so : Bool) (sky : Pages) → p ≡ page_for c rs (whole_of r) → r.page.0 ≡ p
+      → PutOn (canvas c) c.rotation (cell_size c (size_of (box_of r))) p (length rs) (cells_on c rs) f sky
+      → so ≡ same_spot r (record_for c (art_of r) r.page.0 f) → Replayed c rs r so sky
   unfolding placed art_of spot_on
-  replay_here p f so xs ys ns e pe put s = record {
+  replay_here p f so sky e pe put s = record {
     same = s ∙ ap (λ (z : ℕ). same_spot r (record_for c (art_of r) z f)) (pe ∙ e)
         ∙ ap (λ (z : Option Spot). same_spot r (record_for c (art_of r) (page_for c rs (whole_of r)) z)) (here ∙ ap (λ (z : ℕ). spot_on c (cells_on c rs z) (size_of (box_of r))) (pe ∙ e));
     after = λ t.
-        subst (λ (m : ℕ). Stands (canvas c).w (cells_on c (rs ++ r ∷ [])) m xs ys ns) (sym (length_snoc rs r))
+        subst (λ (m : ℕ). Stands (canvas c).w (cells_on c (rs ++ r ∷ [])) m sky) (sym (length_snoc rs r))
         (put.stands (cells_on c (rs ++ r ∷ []))
         (subst (λ (q : ℕ). cells_on c (rs ++ r ∷ []) q ≡ grown (cells_on c rs q) f) pe (after-all f here (sym s ∙ t)))
         (λ q n. cells_other c rs r q (λ z. n (sym z ∙ pe))));

@@ -18,16 +18,17 @@ use Rattle.records.specs.Layouts.{standing, on_page, page_count}
 use Rattle.records.proofs.Checks.{Formed}
 use Rattle.records.proofs.Standing.{rest_next}
 use Rattle.records.proofs.Pages.{count_snoc}
+use Rattle.pages.specs.declared.Pages.{Pages}
 use Rattle.pages.specs.Pages.{Stands, Fresh}
-use Rattle.pages.proofs.Pages.{fresh_stands}
+use Rattle.pages.proofs.Laws.{fresh_stands}
 use Rattle.rules.specs.Placing.{canvas, cells_on, placed}
 use Rattle.rules.specs.Faithful.{art_of, same_spot, placed_so}
 use Rattle.faithful.specs.Replay.{Skies, Replayed, pages_if, Ran}
 
 -- the part of the replay that is done: what is left decides, and the skylines are those of the records so far
-pub record Sofar (l : Layout) (i pages : ℕ) (xs ys ns : List ℕ) : Type 0 where
+pub record Sofar (l : Layout) (i pages : ℕ) (sky : Pages) : Type 0 where
   pub passed : placed_so l.config (take i (standing l)) (drop i (standing l)) ≡ placed_so l.config [] (standing l)
-  pub skies : Skies l.config (take i (standing l)) pages xs ys ns
+  pub skies : Skies l.config (take i (standing l)) pages sky
   pub pages_few : pages ≤ 8
 
 module _ (l : Layout) (f : Formed l) where
@@ -49,11 +50,11 @@ module _ (l : Layout) (f : Formed l) where
   unfolding cells_on on_page only
   no_cells c p = refl
 
-  pub sofar_none : (w : ℕ) (xs ys ns : List ℕ) → w ≡ l.config.maxw → Fresh w 8 xs ys ns → Sofar l 0 0 xs ys ns
+  pub sofar_none : (w : ℕ) (sky : Pages) → w ≡ l.config.maxw → Fresh w sky → Sofar l 0 0 sky
   unfolding page_count greatest canvas
-  sofar_none w xs ys ns e fr = record {
+  sofar_none w sky e fr = record {
     passed = refl;
-    skies = record { stands = subst (λ (v : ℕ). Stands v (cells_on l.config []) 0 xs ys ns) e (fresh_stands w (cells_on l.config []) xs ys ns (no_cells l.config) fr); count = refl };
+    skies = record { stands = subst (λ (v : ℕ). Stands v (cells_on l.config []) 0 sky) e (fresh_stands w (cells_on l.config []) sky (no_cells l.config) fr); count = refl };
     pages_few = omega arith;
   }
 
@@ -69,19 +70,19 @@ module _ (l : Layout) (f : Formed l) where
         ∙ ap (λ (z : Bool). z && placed_so l.config (take i rs ++ at i ∷ []) (drop (i + 1) rs)) (sym e)
         ∙ ap (λ (z : List Record). b && placed_so l.config z (drop (i + 1) rs)) (sym next)
 
-    pub sofar_stop : {pages : ℕ} (xs ys ns xs' ys' ns' : List ℕ) (so : Bool) → so ≡ false → Sofar l i pages xs ys ns
-        → Replayed l.config (take i rs) (at i) so xs' ys' ns' → Ran l None xs' ys' ns'
-    sofar_stop xs ys ns xs' ys' ns' so e sf rp = record {
+    pub sofar_stop : {pages : ℕ} (sky sky' : Pages) (so : Bool) → so ≡ false → Sofar l i pages sky
+        → Replayed l.config (take i rs) (at i) so sky' → Ran l None sky'
+    sofar_stop sky sky' so e sf rp = record {
       is = sym (ap (λ (z : Bool). pages_if z l) (sym sf.passed ∙ step false (sym e ∙ rp.same)));
       skies = λ p q. absurd (cc);
     }
 
-    pub sofar_more : (pages pages' : ℕ) (xs ys ns xs' ys' ns' : List ℕ) (so : Bool) → so ≡ true → Sofar l i pages xs ys ns
-        → Replayed l.config (take i rs) (at i) so xs' ys' ns' → pages' ≡ max pages ((at i).page.0 + 1)
-        → Sofar l (i + 1) pages' xs' ys' ns'
-    sofar_more pages pages' xs ys ns xs' ys' ns' so e sf rp ep = record {
+    pub sofar_more : (pages pages' : ℕ) (sky sky' : Pages) (so : Bool) → so ≡ true → Sofar l i pages sky
+        → Replayed l.config (take i rs) (at i) so sky' → pages' ≡ max pages ((at i).page.0 + 1)
+        → Sofar l (i + 1) pages' sky'
+    sofar_more pages pages' sky sky' so e sf rp ep = record {
       passed = sym (step true (sym e ∙ rp.same)) ∙ sf.passed;
-      skies = subst (λ (z : List Record). Skies l.config z pages' xs' ys' ns') (sym next)
+      skies = subst (λ (z : List Record). Skies l.config z pages' sky') (sym next)
           (record {
             stands = rp.after e;
             count = ep ∙ ap (λ (n : ℕ). max n ((at i).page.0 + 1)) sf.skies.count ∙ sym (count_snoc (take i rs) (at i));
@@ -89,12 +90,12 @@ module _ (l : Layout) (f : Formed l) where
       pages_few = let g = f.at i h in omega (arith, g.page, f.config.pages_few, sf.pages_few);
     }
 
-  pub sofar_done : (i pages : ℕ) (xs ys ns : List ℕ) → i ≡ length rs → Sofar l i pages xs ys ns → Ran l (Some pages) xs ys ns
+  pub sofar_done : (i pages : ℕ) (sky : Pages) → i ≡ length rs → Sofar l i pages sky → Ran l (Some pages) sky
   unfolding placed_so
-  sofar_done i pages xs ys ns e sf =
+  sofar_done i pages sky e sf =
       let b : drop i rs ≡ [] = ap (λ (k : ℕ). drop k rs) e ∙ drop-length rs in
-      let sk = subst (λ (z : List Record). Skies l.config z pages xs ys ns) (take_all i rs (omega arith)) sf.skies in
+      let sk = subst (λ (z : List Record). Skies l.config z pages sky) (take_all i rs (omega arith)) sf.skies in
       record {
         is = ap Some sk.count ∙ ap (λ (z : Bool). pages_if z l) (sym (ap (placed_so l.config (take i rs)) b) ∙ sf.passed);
-        skies = λ p q. let z : pages ≡ p = cc in subst (λ (n : ℕ). Skies l.config rs n xs ys ns) z sk;
+        skies = λ p q. let z : pages ≡ p = cc in subst (λ (n : ℕ). Skies l.config rs n sky) z sk;
       }

@@ -16,6 +16,7 @@ use Rattle.records.specs.declared.layout.Layout.{Layout}
 use Rattle.records.specs.Layouts.{standing, well_formed, has_key, page_count}
 use Rattle.records.proofs.Rows.{hit, skipped, and_true}
 use Rattle.records.proofs.Standing.{rest_next}
+use Rattle.pages.specs.declared.Pages.{Pages}
 use Rattle.rules.specs.Faithful.{keys_differ, placed_so, whole_if_untrimmed, faithful}
 use Rattle.faithful.specs.Replay.{distinct, key_of, Skies, pages_if, Ran, Tested, trust, Trusted}
 use Rattle.records.specs.Refusals.{Row, first_refusal}
@@ -92,11 +93,11 @@ module _ (l : Layout) where
       (and_no_right (placed_so l.config [] (standing l)) (all (whole_if_untrimmed l.config) (standing l) && true)
       (and_no_left (all (whole_if_untrimmed l.config) (standing l)) true e))
 
-  module _ (xs ys ns : List ℕ) where
-    pub test_none : faithful l ≡ false → Tested l None xs ys ns
+  module _ (sky : Pages) where
+    pub test_none : faithful l ≡ false → Tested l None sky
     test_none e = record { is = sym (ap (λ (z : Bool). pages_if z l) e); skies = λ p q. absurd (cc) }
 
-    pub test_all : (r : Option ℕ) → keys_differ (standing l) ≡ true → all (whole_if_untrimmed l.config) (standing l) ≡ true → Ran l r xs ys ns → Tested l r xs ys ns
+    pub test_all : (r : Option ℕ) → keys_differ (standing l) ≡ true → all (whole_if_untrimmed l.config) (standing l) ≡ true → Ran l r sky → Tested l r sky
     unfolding faithful all_of
     test_all r k w rn = record {
       is = rn.is
@@ -116,12 +117,12 @@ whole_trim c r e = rw e
 -- TODO
 -- ## 2 and 3
 
-module _ (l : Layout) (xs ys ns : List ℕ) where
-  pub trust-unformed : well_formed l ≡ false → Trusted l (Err NotWellFormed) xs ys ns
+module _ (l : Layout) (sky : Pages) where
+  pub trust-unformed : well_formed l ≡ false → Trusted l (Err NotWellFormed) sky
   unfolding trust
   trust-unformed e = record { is = rw e; skies = λ p q. absurd (cc) }
 
-  pub trust-tested : (s : Option ℕ) → well_formed l ≡ true → Tested l s xs ys ns → Trusted l (ok_or s NotFaithful) xs ys ns
+  pub trust-tested : (s : Option ℕ) → well_formed l ≡ true → Tested l s sky → Trusted l (ok_or s NotFaithful) sky
   unfolding trust
   trust-tested s e t = record { is = ap (λ (z : Option ℕ). ok_or z NotFaithful) t.is ∙ go (faithful l) ∙ rw e; skies = keeps s t.skies }
     where
@@ -129,7 +130,7 @@ module _ (l : Layout) (xs ys ns : List ℕ) where
       go true = refl
       go false = refl
 
-      keeps : (s : Option ℕ) → ((p : ℕ) → s ≡ Some p → Skies l.config (standing l) p xs ys ns) → (p : ℕ) → ok_or s NotFaithful ≡ Ok p → Skies l.config (standing l) p xs ys ns
+      keeps : (s : Option ℕ) → ((p : ℕ) → s ≡ Some p → Skies l.config (standing l) p sky) → (p : ℕ) → ok_or s NotFaithful ≡ Ok p → Skies l.config (standing l) p sky
       keeps None h p q = absurd (cc)
       keeps (Some n) h p q = h p (cc)
 

@@ -5,6 +5,7 @@ use Rattle.std.proofs.Math.Option.{Option as Maybe, none, some}
 use Rattle.geometry.specs.Words.{any}
 use Rattle.geometry.specs.declared.rect.Size.{Size}
 use Rattle.geometry.specs.declared.spot.Spot.{Spot}
+use Rattle.pages.specs.declared.Pages.{Pages}
 use Rattle.pages.specs.Pages.{Stands}
 use Rattle.records.specs.Layouts.{standing, well_formed, page_count}
 use Rattle.records.specs.declared.texture_packer_config.Config.{Config}
@@ -27,18 +28,18 @@ abbrev pub Near : Option Spot → Type 0
 Near f = (k : Spot) → f ≡ Some k → (k.at.x ≤ 4096) × (k.at.y ≤ 4096)
 
 -- the skylines of the pages on which some records stand, and how many pages there are
-pub record Skies (c : Config) (rs : List Record) (pages : ℕ) (xs ys ns : List ℕ) : Type 0 where
-  pub stands : Stands (canvas c).w (cells_on c rs) (length rs) xs ys ns
+pub record Skies (c : Config) (rs : List Record) (pages : ℕ) (sky : Pages) : Type 0 where
+  pub stands : Stands (canvas c).w (cells_on c rs) (length rs) sky
   pub count : pages ≡ page_count rs
 
 -- they are those of fewer than 256 records
-abbrev pub SomeSkies : Config → ℕ → List ℕ → List ℕ → List ℕ → Type 0
-SomeSkies c pages xs ys ns = (rs : List Record) × Skies c rs pages xs ys ns × (length rs < 256)
+abbrev pub SomeSkies : Config → ℕ → Pages → Type 0
+SomeSkies c pages sky = (rs : List Record) × Skies c rs pages sky × (length rs < 256)
 
 -- whether the rule puts the next record where it is, and if so the skylines with it
-pub record Replayed (c : Config) (rs : List Record) (r : Record) (so : Bool) (xs ys ns : List ℕ) : Type 0 where
+pub record Replayed (c : Config) (rs : List Record) (r : Record) (so : Bool) (sky : Pages) : Type 0 where
   pub same : so ≡ same_spot r (placed c rs (art_of r))
-  pub after : so ≡ true → Stands (canvas c).w (cells_on c (rs ++ r ∷ [])) (length (rs ++ r ∷ [])) xs ys ns
+  pub after : so ≡ true → Stands (canvas c).w (cells_on c (rs ++ r ∷ [])) (length (rs ++ r ∷ [])) sky
 
 -- ## the whole replay
 
@@ -46,14 +47,14 @@ pub record Replayed (c : Config) (rs : List Record) (r : Record) (so : Bool) (xs
 abbrev pub pages_if : Bool → Layout → Option ℕ
 pages_if so l = cond so (Some (page_count (standing l))) None
 
-pub record Ran (l : Layout) (r : Option ℕ) (xs ys ns : List ℕ) : Type 0 where
+pub record Ran (l : Layout) (r : Option ℕ) (sky : Pages) : Type 0 where
   pub is : r ≡ pages_if (placed_so l.config [] (standing l)) l
-  pub skies : (pages : ℕ) → r ≡ Some pages → Skies l.config (standing l) pages xs ys ns
+  pub skies : (pages : ℕ) → r ≡ Some pages → Skies l.config (standing l) pages sky
 
 -- the answer is whether the layout is faithful, and if it is, the skylines are those of its records
-pub record Tested (l : Layout) (r : Option ℕ) (xs ys ns : List ℕ) : Type 0 where
+pub record Tested (l : Layout) (r : Option ℕ) (sky : Pages) : Type 0 where
   pub is : r ≡ pages_if (faithful l) l
-  pub skies : (pages : ℕ) → r ≡ Some pages → Skies l.config (standing l) pages xs ys ns
+  pub skies : (pages : ℕ) → r ≡ Some pages → Skies l.config (standing l) pages sky
 
 -- ## the record of an image at a spot; without a spot it is too large
 
@@ -76,6 +77,6 @@ key_of r = r.key.0
 unfoldable pub trust : Layout → Result ℕ Refusal
 trust l = cond (well_formed l) (cond (faithful l) (Ok (page_count (standing l))) (Err NotFaithful)) (Err NotWellFormed)
 
-pub record Trusted (l : Layout) (t : Result ℕ Refusal) (xs ys ns : List ℕ) : Type 0 where
+pub record Trusted (l : Layout) (t : Result ℕ Refusal) (sky : Pages) : Type 0 where
   pub is : t ≡ trust l
-  pub skies : (pages : ℕ) → t ≡ Ok pages → Skies l.config (standing l) pages xs ys ns
+  pub skies : (pages : ℕ) → t ≡ Ok pages → Skies l.config (standing l) pages sky

@@ -4,7 +4,6 @@ ghost use Rattle.records.specs.Settings.{in_bounds};
 ghost use Rattle.records.specs.Records.{record_well_formed};
 ghost use Rattle.records.specs.Layouts.{standing, well_formed};
 ghost use Rattle.records.specs.declared.frame.Record.{Record};
-ghost use Rattle.pages.specs.Pages.{Long};
 ghost use Rattle.rules.specs.Placing.{record_for};
 ghost use Rattle.rules.specs.Faithful.{art_of, same_spot};
 ghost use Rattle.faithful.specs.Replay.{Skies, SomeSkies, Replayed, Ran};
@@ -12,6 +11,7 @@ ghost use Rattle.faithful.specs.Replay.{Skies, SomeSkies, Replayed, Ran};
 use crate::placing;
 use geometry::rect::Size;
 use geometry::spot::Spot;
+use pages::Pages;
 use records::frame;
 use records::frame::Record;
 use records::layout::Layout;
@@ -30,23 +30,16 @@ fn same_spot(c: Config, r: Record, f: Option<Spot>) -> bool
 }
 
 // Whether the rule puts the next record where it is; if so, the skylines have it.
-fn replay_one(
-    xs: &mut [u32],
-    ys: &mut [u32],
-    ns: &mut [usize],
-    c: Config,
-    pages: usize,
-    r: Record,
-) -> bool
+fn replay_one(skies: &mut Pages, c: Config, pages: usize, r: Record) -> bool
     requires c_value { (in_bounds c ≡ true) × (record_well_formed c r ≡ true) × (pages ≤ 8) }
-    requires some_skies { SomeSkies c pages xs.old ys.old ns.old }
-    ensures { (rs : List Record) → Skies c rs pages xs.old ys.old ns.old →
-        Replayed c rs r result xs.new ys.new ns.new }
+    requires some_skies { SomeSkies c pages skies.old }
+    ensures { (rs : List Record) → Skies c rs pages skies.old →
+        Replayed c rs r result skies.new }
 {
     let area = placing::canvas_of(c);
     let whole = placing::cell_size(c, frame::whole_of(r));
     let rotation = c.rotation;
-    let p = pages::first_page(xs, ys, ns, pages, area, rotation, whole);
+    let p = skies.first_page(pages, area, rotation, whole);
     if r.page.0 as usize != p {
         return false;
     }
@@ -58,23 +51,22 @@ fn replay_one(
             h: kept.h,
         },
     );
-    let f = pages::pack_on(xs, ys, ns, p, area, rotation, cell);
+    let f = skies.pack_on(p, area, rotation, cell);
     same_spot(c, r, f)
 }
 
 // The standing records placed again, one after the other, on empty pages: how many pages there are, if every record stands where the rule
 // puts it.
-pub fn replay(l: Layout, xs: &mut [u32], ys: &mut [u32], ns: &mut [usize]) -> Option<usize>
-    requires l_value { well_formed l ≡ true }
-    requires long { Long xs.old ys.old ns.old }
-    ensures { Ran l result xs.new ys.new ns.new }
+pub fn replay(l: Layout, skies: &mut Pages) -> Option<usize>
+    requires { well_formed l ≡ true }
+    ensures { Ran l result skies.new }
 {
     let c = l.config;
-    pages::fresh_pages(xs, ys, ns, c.maxw);
+    *skies = Pages::new(c.maxw);
     let mut pages = 0;
     let standing = &l.records[..l.count];
     for r in standing {
-        if !replay_one(xs, ys, ns, c, pages, *r) {
+        if !replay_one(skies, c, pages, *r) {
             return None;
         }
         pages = pages.max(r.page.0 as usize + 1);

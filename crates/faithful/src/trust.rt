@@ -3,12 +3,12 @@
 ghost use Rattle.std.specs.Prelude.{◌≡◌, true, map, ◌≤◌, length, take, drop, eqb};
 ghost use Rattle.geometry.specs.Words.{all, any};
 ghost use Rattle.records.specs.Layouts.{standing, well_formed};
-ghost use Rattle.pages.specs.Pages.{Long};
 ghost use Rattle.rules.specs.Faithful.{keys_differ, whole_if_untrimmed};
 ghost use Rattle.faithful.specs.Replay.{distinct, key_of, Tested, Trusted};
 
 use crate::replaying;
 use geometry::rect::Rect;
+use pages::Pages;
 use records::frame::Record;
 use records::layout::Layout;
 use records::refusal::Refusal;
@@ -63,28 +63,21 @@ fn all_whole(l: Layout) -> bool
 }
 
 // The number of the layout's pages if it is faithful, and their skylines.
-fn is_faithful(l: Layout, xs: &mut [u32], ys: &mut [u32], ns: &mut [usize]) -> Option<usize>
-    requires l_value { well_formed l ≡ true }
-    requires long { Long xs.old ys.old ns.old }
-    ensures { Tested l result xs.new ys.new ns.new }
+fn is_faithful(l: Layout, skies: &mut Pages) -> Option<usize>
+    requires { well_formed l ≡ true }
+    ensures { Tested l result skies.new }
 {
     if !keys_differ(l) || !all_whole(l) {
         return None;
     }
-    replaying::replay(l, xs, ys, ns)
+    replaying::replay(l, skies)
 }
 
-pub fn trusted(
-    l: Layout,
-    xs: &mut [u32],
-    ys: &mut [u32],
-    ns: &mut [usize],
-) -> Result<usize, Refusal>
-    requires { Long xs.old ys.old ns.old }
-    ensures { Trusted l result xs.new ys.new ns.new }
+pub fn trusted(l: Layout, skies: &mut Pages) -> Result<usize, Refusal>
+    ensures { Trusted l result skies.new }
 {
     if !layout::well_formed(l) {
         return Err(Refusal::NotWellFormed);
     }
-    is_faithful(l, xs, ys, ns).ok_or(Refusal::NotFaithful)
+    is_faithful(l, skies).ok_or(Refusal::NotFaithful)
 }

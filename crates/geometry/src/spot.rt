@@ -8,18 +8,15 @@ use crate::rect::{Rect, Size};
 
 #[derive(Clone, Copy, PartialEq, Eq, PartialOrd, Ord)]
 pub enum Turn {
-    Upright,
-    Turned,
+    Upright = 0,
+    Turned = 1,
 }
 
 impl From<Turn> for u32 {
     ghost from_gives = { λ t n. n ≡ turn_number t };
 
     fn from(t: Turn) -> u32 {
-        match t {
-            Turn::Upright => 0,
-            Turn::Turned => 1,
-        }
+        t as u32
     }
 }
 

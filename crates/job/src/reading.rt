@@ -19,7 +19,7 @@ pub struct Entry {
     pub line: usize,
 }
 
-// The entries are an array and a count, because a job has at most 256 and needs no heap.
+// An array and a count, and no vector: a text is never refused for want of memory, and all of a job is determined by its text.
 #[derive(Clone, Copy)]
 pub struct Job {
     pub config: Config,

@@ -3,7 +3,7 @@
 
 ghost use Rattle.std.specs.Prelude.{◌≡◌};
 ghost use Rattle.art.specs.Stores.{lent};
-ghost use Rattle.laying.specs.Laying.{stop_of, offered_one, offering, wanted, laid_out};
+ghost use Rattle.laying.specs.Laying.{offered_one, offering, wanted, laid_out};
 
 use art::memory_rgba8_texture::Stores;
 use job::reading::{Entry, Job};
@@ -11,7 +11,6 @@ use layout::multi_texture_packer;
 use records::layout as layouts;
 use records::layout::{Answered, Layout};
 use records::refusal::Refusal;
-use rules::multi_texture_packer::Offered;
 
 // Where a refusal ends it.
 #[derive(Clone, Copy)]
@@ -23,15 +22,6 @@ pub enum Stop {
 
 pub type Laid = Answered<Result<(), Stop>>;
 
-fn stop_of(k: usize, answer: Offered) -> Result<(), Stop>
-    ensures { result ≡ stop_of k answer }
-{
-    match answer {
-        Ok(_) => Ok(()),
-        Err(refusal) => Err(Stop::AtOffer(k, refusal)),
-    }
-}
-
 // One image offered. A refused offer hands the layout back as it was.
 #[tactic(auto, unfolding(crate::specs::Laying::offered_one))]
 fn offer_one(l: Layout, stores: Stores<'_>, k: usize, entry: Entry) -> Laid
@@ -39,7 +29,10 @@ fn offer_one(l: Layout, stores: Stores<'_>, k: usize, entry: Entry) -> Laid
 {
     let offer = multi_texture_packer::offer(l, stores, entry.key, entry.image);
     Answered {
-        answer: stop_of(k, offer.answer),
+        answer: offer
+            .answer
+            .map(|_| ())
+            .map_err(|refusal| Stop::AtOffer(k, refusal)),
         layout: offer.layout,
     }
 }

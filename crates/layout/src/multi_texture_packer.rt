@@ -15,6 +15,7 @@ ghost use Rattle.layout.specs.Rest.{ask_rest};
 use art::memory_rgba8_texture::{Image, Stores};
 use faithful::{placing, trust};
 use geometry::rect::Size;
+use pages::Pages;
 use records::frame;
 use records::frame::{Key, Page};
 use records::layout::{Answered, Layout};
@@ -22,19 +23,14 @@ use records::refusal::Refusal;
 use records::texture_packer_config::Config;
 use rules::multi_texture_packer::{Asked, Offering, Withdrawing, Withdrawn};
 
+// The width of pages that the replay makes anew before it places anything.
+const ANY: u32 = 1;
+
 // The checks of ask past 2 and 3, and the page's answer.
-fn ask_on<'a>(
-    xs: &'a [u32],
-    ys: &'a [u32],
-    ns: &'a [usize],
-    c: Config,
-    pages: usize,
-    page: Page,
-    size: Size,
-) -> Asked
+fn ask_on(skies: &Pages, c: Config, pages: usize, page: Page, size: Size) -> Asked
     requires c_value { (in_bounds c ≡ true) × (pages ≤ 8) }
-    requires skies { (rs : List Record) × Skies c rs pages xs.now ys.now ns.now }
-    ensures { (rs : List Record) → Skies c rs pages xs.now ys.now ns.now →
+    requires skies { (rs : List Record) × Skies c rs pages skies.now }
+    ensures { (rs : List Record) → Skies c rs pages skies.now →
         result ≡ ask_answer (is_found (spot_on c (cells_on c rs page.0) size)) (first_refusal (ask_rest rs page size)) }
 {
     if offers::bad_size(size.w, size.h) {
@@ -46,7 +42,7 @@ fn ask_on<'a>(
     }
     let area = placing::canvas_of(c);
     let cell = placing::cell_size(c, size);
-    Ok(pages::can_pack_on(xs, ys, ns, p, area, c.rotation, cell))
+    Ok(skies.can_pack_on(p, area, c.rotation, cell))
 }
 
 // ask: 2 3 4 11
@@ -54,11 +50,9 @@ pub fn ask(l: Layout, page: Page, size: Size) -> Asked
     ensures value { result ≡ asked l page size }
     ensures result_value { asked_numbers result ≡ asked_numbers (asked l page size) }
 {
-    let mut xs = [0u32; 2064];
-    let mut ys = [0u32; 2064];
-    let mut ns = [0usize; 8];
-    let pages = trust::trusted(l, &mut xs, &mut ys, &mut ns)?;
-    ask_on(&xs, &ys, &ns, l.config, pages, page, size)
+    let mut skies = Pages::new(ANY);
+    let pages = trust::trusted(l, &mut skies)?;
+    ask_on(&skies, l.config, pages, page, size)
 }
 
 // offer: 2 3 4 5 6 7 8 9 10
@@ -66,11 +60,9 @@ pub fn offer(l: Layout, stores: Stores<'_>, key: Key, image: Image) -> Offering
     ensures value { result ≡ offered l (lent stores.entry) key image }
     ensures answer_value { offered_numbers result.answer ≡ offered_numbers (offered l (lent stores.entry) key image).answer }
 {
-    let mut xs = [0u32; 2064];
-    let mut ys = [0u32; 2064];
-    let mut ns = [0usize; 8];
-    match trust::trusted(l, &mut xs, &mut ys, &mut ns) {
-        Ok(pages) => { offers::offer_on(&mut xs, &mut ys, &mut ns, l, pages, stores, key, image) }
+    let mut skies = Pages::new(ANY);
+    match trust::trusted(l, &mut skies) {
+        Ok(pages) => { offers::offer_on(&mut skies, l, pages, stores, key, image) }
         Err(refusal) => Answered {
             answer: Err(refusal),
             layout: l,
@@ -93,10 +85,8 @@ fn latest_key(l: Layout) -> Withdrawn
     ensures is { result ≡ unless (get_or l.records (l.count - 1) blank_record).key (withdraw_refusal l) }
     ensures some { IfOk result (λ k. (0 < l.count) × (l.count ≤ 256)) }
 {
-    let mut xs = [0u32; 2064];
-    let mut ys = [0u32; 2064];
-    let mut ns = [0usize; 8];
-    trust::trusted(l, &mut xs, &mut ys, &mut ns)?;
+    let mut skies = Pages::new(ANY);
+    trust::trusted(l, &mut skies)?;
     let standing = &l.records[..l.count];
     let latest = standing.last().ok_or(Refusal::NothingStands)?;
     Ok(latest.key)

@@ -100,9 +100,7 @@ pub fn page_past(l: Layout, stores: Stores<'_>, page: Page) -> bool
     requires { well_formed l ≡ true }
     ensures { result ≡ page_past (lent stores.entry) page (standing l) }
 {
-    l.records[..l.count]
-        .iter()
-        .any(|r| on_page_past(stores, page, *r))
+    l.standing().iter().any(|r| on_page_past(stores, page, *r))
 }
 
 // The earliest frame whose zone holds the pixel shows it.
@@ -111,7 +109,8 @@ fn pixel_at(l: Layout, stores: Stores<'_>, page: Page, x: u32, y: u32) -> Option
     ensures { Ok result ≡ look_answer (pixel_at l (lent stores.entry) page x y) none }
 {
     let c = l.config;
-    for r in &l.records[..l.count] {
+    let standing = l.standing();
+    for r in standing {
         if reaches_pixel(c, page, *r, x, y) {
             return Some(frame_pixel(stores, c, *r, x, y));
         }

@@ -16,6 +16,7 @@ use Rattle.geometry.specs.Placing.{height, spot_for, grown}
 use Rattle.geometry.proofs.Theorems.{chosen_fits}
 use Rattle.geometry.proofs.Fitting.{fits-inside}
 use Rattle.pages.specs.Pages.{Stands, PutOn}
+use Rattle.pages.specs.declared.Pages.{Pages}
 use Rattle.records.specs.Settings.{in_bounds}
 use Rattle.records.specs.Records.{size_of}
 use Rattle.records.proofs.Checks.{bounded}
@@ -46,8 +47,8 @@ stood-is c a p k r q = injective (record_at c a p k) r q
     injective : (x y : Record) → ◌≡◌ {A = Result Record Refusal} (Ok x) (Ok y) → x ≡ y
     injective x y e = cc
 
-module _ (c : Config) (rs : List Record) (a : Art) (p : ℕ) (xs ys ns : List ℕ) (e : p ≡ page_for c rs a.whole) where
-  pub step-full : c.pages ≤ p → Stepped c rs a (Err PageLimit) xs ys ns
+module _ (c : Config) (rs : List Record) (a : Art) (p : ℕ) (sky : Pages) (e : p ≡ page_for c rs a.whole) where
+  pub step-full : c.pages ≤ p → Stepped c rs a (Err PageLimit) sky
   unfolding outcome
   step-full l =
       let m : c.pages ≤ page_for c rs a.whole = omega arith in
@@ -66,8 +67,8 @@ module _ (c : Config) (rs : List Record) (a : Art) (p : ℕ) (xs ys ns : List �
         pg,
       )
 
-  pub step-here : (f : Option Spot) (o : Result Record Refusal) → p < c.pages → PutOn (canvas c) c.rotation (cell_size c (size_of a.kept)) p (length rs) (cells_on c rs) f xs ys ns
-      → o ≡ stood (record_for c a p f) → Stepped c rs a o xs ys ns
+  pub step-here : (f : Option Spot) (o : Result Record Refusal) → p < c.pages → PutOn (canvas c) c.rotation (cell_size c (size_of a.kept)) p (length rs) (cells_on c rs) f sky
+      → o ≡ stood (record_for c a p f) → Stepped c rs a o sky
   unfolding outcome placed spot_on
   step-here f o l put s =
       let m : page_for c rs a.whole < c.pages = omega arith in
@@ -79,15 +80,15 @@ module _ (c : Config) (rs : List Record) (a : Art) (p : ℕ) (xs ys ns : List �
       }
     where
       go : {r : Record} (g : Option Spot) → g ≡ spot_on c (cells_on c rs p) (size_of a.kept) → stood (record_for c a p g) ≡ Ok r
-          → PutOn (canvas c) c.rotation (cell_size c (size_of a.kept)) p (length rs) (cells_on c rs) g xs ys ns
-          → Stands (canvas c).w (cells_on c (rs ++ r ∷ [])) (length (rs ++ r ∷ [])) xs ys ns
+          → PutOn (canvas c) c.rotation (cell_size c (size_of a.kept)) p (length rs) (cells_on c rs) g sky
+          → Stands (canvas c).w (cells_on c (rs ++ r ∷ [])) (length (rs ++ r ∷ [])) sky
       go None h q pt = absurd (never q)
         where
           never : {r : Record} → stood (record_for c a p None) ≡ Ok r → ⊥
           never q = let t = stood-none c a p None refl in let z : ◌≡◌ {A = ℕ} 0 1 = cc in omega arith
       go {r} (Some k) h q pt =
           let w = after-at k r h (same k r q) in
-          subst (λ (n : ℕ). Stands (canvas c).w (cells_on c (rs ++ r ∷ [])) n xs ys ns) (sym (length_snoc rs r))
+          subst (λ (n : ℕ). Stands (canvas c).w (cells_on c (rs ++ r ∷ [])) n sky) (sym (length_snoc rs r))
           (pt.stands (cells_on c (rs ++ r ∷ [])) w.0 (λ j n. cells_other c rs r j (λ z. n (sym z ∙ w.1))))
         where
           same : (k : Spot) (r : Record) → stood (record_for c a p (Some k)) ≡ Ok r → record_at c a p k ≡ r

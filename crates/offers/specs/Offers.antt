@@ -1,10 +1,11 @@
 -- What an offer has left to do past 2 and 3. Words of the code, not rules of document 01.
 -- Assumes nothing.
-use Rattle.std.specs.Prelude.{ℕ, ◌≡◌, Bool, cond, ◌&&◌, List, [], ◌∷◌, ◌++◌, length, leb, ltb, Option, Some, Result, Ok, Err}
+use Rattle.std.specs.Prelude.{◌≡◌, Bool, cond, ◌&&◌, List, [], ◌∷◌, ◌++◌, length, leb, ltb, Option, Some, Result, Ok, Err}
 use Rattle.std.proofs.Math.Option.{Option as Maybe, none, some}
 use Rattle.geometry.specs.Words.{any}
 use Rattle.geometry.specs.declared.rect.Rect.{Rect}
 use Rattle.pages.specs.Pages.{Stands}
+use Rattle.pages.specs.declared.Pages.{Pages}
 use Rattle.art.specs.Stores.{Stores, runs_past}
 use Rattle.art.specs.Trimming.{all_clear, whole_box, trimmed_to}
 use Rattle.art.specs.declared.memory_rgba8_texture.Image.{Image}
@@ -28,9 +29,9 @@ use Rattle.faithful.specs.Replay.{stood}
 unfoldable pub outcome : Config → List Record → Art → Result Record Refusal
 outcome c rs a = cond (ltb (page_for c rs a.whole) c.pages) (stood (placed c rs a)) (Err PageLimit)
 
-pub record Stepped (c : Config) (rs : List Record) (a : Art) (o : Result Record Refusal) (xs ys ns : List ℕ) : Type 0 where
+pub record Stepped (c : Config) (rs : List Record) (a : Art) (o : Result Record Refusal) (sky : Pages) : Type 0 where
   pub is : o ≡ outcome c rs a
-  pub after : (r : Record) → o ≡ Ok r → Stands (canvas c).w (cells_on c (rs ++ r ∷ [])) (length (rs ++ r ∷ [])) xs ys ns
+  pub after : (r : Record) → o ≡ Ok r → Stands (canvas c).w (cells_on c (rs ++ r ∷ [])) (length (rs ++ r ∷ [])) sky
 
 -- ## what is left of its row past 7, and past 2 and 3
 

@@ -19,6 +19,7 @@ use faithful::placing;
 use geometry::rect::{Rect, Size};
 use geometry::spot;
 use geometry::spot::Turn;
+use pages::Pages;
 use records::frame::{Key, Record};
 use records::layout::{Answered, Layout};
 use records::refusal::Refusal;
@@ -94,45 +95,36 @@ fn checked_art(l: Layout, stores: Stores<'_>, key: Key, image: Image) -> Result<
 }
 
 // One step of the placing rule: its page, and there the trimmed cell, on the skylines of the records so far.
-fn place_art(
-    xs: &mut [u32],
-    ys: &mut [u32],
-    ns: &mut [usize],
-    c: Config,
-    pages: usize,
-    a: Art,
-) -> Result<Record, Refusal>
+fn place_art(skies: &mut Pages, c: Config, pages: usize, a: Art) -> Result<Record, Refusal>
     requires c_value { (in_bounds c ≡ true) × (pages ≤ 8) × Sized a.whole × Sized (size_of a.kept) }
-    requires some_skies { SomeSkies c pages xs.old ys.old ns.old }
-    ensures { (rs : List Record) → Skies c rs pages xs.old ys.old ns.old →
-        Stepped c rs a result xs.new ys.new ns.new }
+    requires some_skies { SomeSkies c pages skies.old }
+    ensures { (rs : List Record) → Skies c rs pages skies.old →
+        Stepped c rs a result skies.new }
 {
     let area = placing::canvas_of(c);
     let rotation = c.rotation;
     let w = a.whole;
     let whole = placing::cell_size(c, w);
-    let p = pages::first_page(xs, ys, ns, pages, area, rotation, whole);
+    let p = skies.first_page(pages, area, rotation, whole);
     if c.pages as usize <= p {
         return Err(Refusal::PageLimit);
     }
     let k = a.kept;
     let cell = placing::cell_size(c, Size { w: k.w, h: k.h });
-    let f = pages::pack_on(xs, ys, ns, p, area, rotation, cell);
+    let f = skies.pack_on(p, area, rotation, cell);
     placing::record_for(c, a, p as u32, f)
 }
 
 // The checks from 4 on, and the record that the image gets.
 fn record_of_offer(
-    xs: &mut [u32],
-    ys: &mut [u32],
-    ns: &mut [usize],
+    skies: &mut Pages,
     l: Layout,
     pages: usize,
     stores: Stores<'_>,
     key: Key,
     image: Image,
 ) -> Result<Record, Refusal>
-    requires { (well_formed l ≡ true) × Skies l.config (standing l) pages xs.old ys.old ns.old }
+    requires { (well_formed l ≡ true) × Skies l.config (standing l) pages skies.old }
     ensures is { result ≡ record_answer (placed l.config (standing l) (art_for l.config (lent stores.entry) key image))
         (first_refusal (offer_rest l (lent stores.entry) key image)) }
     ensures room { IfOk result (λ r. l.count < 256) }
@@ -151,7 +143,7 @@ fn record_of_offer(
     if c.images as usize <= l.count {
         return Err(Refusal::ImageLimit);
     }
-    place_art(xs, ys, ns, c, pages, a)
+    place_art(skies, c, pages, a)
 }
 
 #[tactic(auto, unfolding(rules::specs::Operations::with_record))]
@@ -166,20 +158,18 @@ fn with_record(mut l: Layout, r: Record) -> Layout
 
 // The checks from 4 on.
 pub fn offer_on(
-    xs: &mut [u32],
-    ys: &mut [u32],
-    ns: &mut [usize],
+    skies: &mut Pages,
     l: Layout,
     pages: usize,
     stores: Stores<'_>,
     key: Key,
     image: Image,
 ) -> Offering
-    requires { (well_formed l ≡ true) × Skies l.config (standing l) pages xs.old ys.old ns.old }
+    requires { (well_formed l ≡ true) × Skies l.config (standing l) pages skies.old }
     ensures { result ≡ offer_answer l (placed l.config (standing l) (art_for l.config (lent stores.entry) key image))
         (first_refusal (offer_rest l (lent stores.entry) key image)) }
 {
-    match record_of_offer(xs, ys, ns, l, pages, stores, key, image) {
+    match record_of_offer(skies, l, pages, stores, key, image) {
         Ok(r) => {
             let place = Place {
                 page: r.page,

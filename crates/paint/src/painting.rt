@@ -127,7 +127,7 @@ pub fn paint_band(
     let c = l.config;
     let k = background::without_pixel(g);
     fill(bytes, w as usize * rows as usize, k);
-    for r in l.records[..l.count].iter().rev() {
+    for r in l.standing().iter().rev() {
         paint_record(bytes, stores, c, g, page, *r, w, first, rows);
     }
 }

@@ -7,7 +7,6 @@ use mathlib.Core.List.{List, [], ◌∷◌}
 use mathlib.Core.Option.{Option, none, some}
 use mathlib.Core.Logic.{◌⊎◌, inl, inr}
 use lib.ListN.{length, get_or}
-use borrow.Author.Count.{below_more}
 use Rattle.std.specs.Prelude.{Option as Found, Some, None}
 use Rattle.std.specs.Option.{MatchOption, unwrap_or}
 use Rattle.std.specs.List.{AllWithin, HoldsAt}
@@ -15,7 +14,10 @@ use Rattle.geometry.specs.Words.{any, earliest, or_else}
 use Rattle.geometry.proofs.Words.{not_both, earliest-at, earliest-none}
 use Rattle.geometry.proofs.Members.{any_in}
 use Rattle.records.specs.Settings.{blank_record}
-use Rattle.records.specs.Layouts.{has_key, key_place}
+use Rattle.std.proofs.lemmas.Bool.{false_from_ne_true, true_from_ne_false}
+use Rattle.std.proofs.Math.Option.{none-ne-some}
+use Rattle.records.specs.Layouts.{standing, has_key, record_of, record_named, key_place}
+use Rattle.records.specs.declared.layout.Layout.{Layout}
 use Rattle.records.specs.declared.frame.Key.{Key}
 use Rattle.records.specs.declared.frame.Record.{Record}
 use Rattle.records.proofs.Rows.{at_in}
@@ -23,9 +25,6 @@ use Rattle.records.proofs.Rows.{at_in}
 -- none before index n has the key
 abbrev pub Misses : Key → List Record → ℕ → Type 0
 Misses k rs n = (i : ℕ) → i < n → has_key k (get_or rs i blank_record) ≡ false
-
-pub misses_more : (k : Key) (rs : List Record) (i : ℕ) → Misses k rs i → has_key k (get_or rs i blank_record) ≡ false → Misses k rs (i + 1)
-misses_more k rs i m e = below_more (λ (j : ℕ). has_key k (get_or rs j blank_record) ≡ false) i m e
 
 module _ (k : Key) (rs : List Record) where
   pub place_at : (i : ℕ) → i < length rs → Misses k rs i → has_key k (get_or rs i blank_record) ≡ true → key_place k rs ≡ i
@@ -86,6 +85,15 @@ miss_all k (r ∷ rs) m =
     let rest = miss_all k rs (λ j g. m (suc j) (omega arith)) in
     let e : has_key k r ≡ false = m 0 (omega arith) in
     (rw e rest.0, rw e rest.1)
+
+-- what a search for the key's record finds, if v reads the record of what it found
+pub first_named : {A : Type 0} (v : A → Record) (k : Key) (rs : List Record) (o : Found A)
+    → MatchOption o (AllWithin (λ r. has_key k r ≡ false) rs 0 (length rs))
+    (λ x. (has_key k (v x) ≡ true) × (i : ℕ) × (i < length rs) × HoldsAt (λ r. r ≡ v x) rs i × AllWithin (λ r. has_key k r ≡ false) rs 0 i)
+    → MatchOption o (earliest (has_key k) rs ≡ none) (λ x. earliest (has_key k) rs ≡ some (v x))
+first_named v k rs None h = (miss_all k rs (λ i b. h i blank_record (omega arith) b)).1
+first_named v k rs (Some x) h =
+    earliest_index k rs h.1 h.2 (λ j b. h.4 j blank_record (omega arith) b) (ap (has_key k) (h.3 blank_record) ∙ h.0) ∙ ap some (h.3 blank_record)
 
 module _ (k : Key) (rs : List Record) where
   -- what a key names, by its place: the earliest record that has it
@@ -151,3 +159,17 @@ module _ (k : Key) (rs : List Record) where
       go : Hit k rs ⊎ Misses k rs (length rs) → Unnamed k rs
       go (inl f) = absurd (not_both (any_in (has_key k) rs (at_in rs blank_record f.index f.below) f.has) e)
       go (inr m) = unnamed_of m
+
+-- ## what a layout's key names, from the record itself
+
+module _ (l : Layout) (k : Key) where
+  pub keyed : {r : Record} → record_of l k ≡ some r → (any (has_key k) (standing l) ≡ true) × (record_named l k ≡ r)
+  unfolding record_of record_named
+  keyed {r} e = (
+    true_from_ne_false _ (λ f. none-ne-some r (sym (nowhere k (standing l) f).is ∙ e)),
+    ap (λ (o : Option Record). or_else o blank_record) e,
+  )
+
+  pub unkeyed : record_of l k ≡ none → any (has_key k) (standing l) ≡ false
+  unfolding record_of
+  unkeyed e = false_from_ne_true _ (λ t. none-ne-some _ (sym e ∙ (named k (standing l) (stands-below k (standing l) t)).is))

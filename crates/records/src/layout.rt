@@ -1,9 +1,10 @@
 // A layout, by value: bounds and blanks, well-formed, the page count, keys; and the operations that need no more: open, page size.
-ghost use Rattle.std.specs.Prelude.{◌≡◌, true, ◌+◌, ◌≤◌, ◌<◌, max};
+ghost use Rattle.std.specs.Prelude.{◌≡◌, MatchOption, true, ◌+◌, ◌≤◌, ◌<◌, max};
+ghost use Rattle.std.proofs.Math.Option.{none, some};
 ghost use Rattle.geometry.specs.Words.{all};
 ghost use Rattle.records.specs.Settings.{in_bounds, empty_layout};
 ghost use Rattle.records.specs.Records.{is_blank, record_well_formed};
-ghost use Rattle.records.specs.Layouts.{standing, unused, well_formed, on_page, page_count, key_place, ends_of, size_of_page};
+ghost use Rattle.records.specs.Layouts.{standing, unused, well_formed, record_of, on_page, page_count, key_place, ends_of, size_of_page};
 ghost use Rattle.records.specs.Operations.{opened, opened_numbers, page_sized, sized_numbers};
 
 use crate::frame::{Key, Page, Record};
@@ -27,6 +28,14 @@ impl Layout {
     {
         &self.records[..self.count]
     }
+
+    // The earliest record that has a key.
+    pub fn named(&self, key: Key) -> Option<&Record>
+        requires { well_formed self.now ≡ true }
+        ensures { MatchOption result (record_of self.now key ≡ none) (λ r. record_of self.now key ≡ some r.now) }
+    {
+        self.standing().iter().find(|r| r.key == key)
+    }
 }
 
 // An answer, and the layout that goes along.
@@ -38,6 +47,7 @@ pub struct Answered<A> {
 
 pub type Opening = Answered<Result<(), Refusal>>;
 
+#[tactic(auto, unfolding(crate::specs::Settings::empty_layout))]
 pub fn empty_layout(c: Config) -> Layout
     ensures { result ≡ empty_layout c }
 {
@@ -50,6 +60,7 @@ pub fn empty_layout(c: Config) -> Layout
 }
 
 // open: 1
+#[tactic(auto, unfolding(crate::specs::Operations::opened, crate::specs::Operations::open_refusal, crate::specs::Operations::open_row, crate::specs::Refusals::first_refusal))]
 pub fn open(c: Config) -> Opening
     ensures value { result ≡ opened c }
     ensures answer_value { opened_numbers result.answer ≡ opened_numbers (opened c).answer }
@@ -138,6 +149,7 @@ fn frame_ends(l: Layout, page: Page) -> Size
 }
 
 // The maxima if forced; else where the page's frames end. For callers that have asked `well_formed`.
+#[tactic(auto, unfolding(crate::specs::Layouts::size_of_page))]
 pub fn size_of_page(l: Layout, page: Page) -> Size
     requires { well_formed l ≡ true }
     ensures { result ≡ size_of_page l page }
@@ -153,6 +165,7 @@ pub fn size_of_page(l: Layout, page: Page) -> Size
 }
 
 // page size: 2 11
+#[tactic(auto, unfolding(crate::specs::Operations::page_sized, crate::specs::Operations::size_refusal, crate::specs::Operations::size_row, crate::specs::Operations::no_such_page, crate::specs::Refusals::first_refusal))]
 pub fn page_size(l: Layout, page: Page) -> Result<Size, Refusal>
     ensures value { result ≡ page_sized l page }
     ensures result_value { sized_numbers result ≡ sized_numbers (page_sized l page) }

@@ -1,5 +1,5 @@
 // A page's skyline: the search for the best place for a cell, and the skyline with the cell there.
 #![tactic(auto)]
 
-mod skyline;
+pub mod skyline;
 pub mod skyline_packer;

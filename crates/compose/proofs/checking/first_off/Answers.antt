@@ -6,11 +6,13 @@ use Rattle.compose.proofs.checking.first_off.Goals as goal
 
 pub returns-then-not-same_pixel : goal.returns-then-not-same_pixel
 returns-then-not-same_pixel c =
-    sym (first-is _ _ _ (record {
+    let e =
+    first-is _ _ _ (record {
       below = c.loop-x-test.true;
       passes = ap not (sym c.same_pixel.ensures) ∙ ap not c.if-not-same_pixel.true;
       before = c.loop-x.invariant;
-    }))
+    }) in
+    (c.loop-x-test.true, sym e)
 
 pub returns : goal.returns
-returns c = sym (first-none _ _ (λ k h. c.loop-x.invariant k (omega arith)))
+returns c = first-none _ _ (λ k h. c.loop-x.invariant k (omega arith))

@@ -9,16 +9,16 @@ use Rattle.faithful.proofs.replaying.replay.Goals.{Start}
 use Rattle.faithful.proofs.replaying.replay.Goals as goal
 
 form : (c : Start) → Formed c.args.l
-form c = formed c.args.l c.requires.l_value
+form c = formed c.args.l c.requires
 
-pub fresh_pages-requires : goal.fresh_pages-requires
-fresh_pages-requires c = (omega (arith, (form (goal.at.fresh_pages-requires c).Start).config.wide), c.requires.long)
+pub new-requires : goal.new-requires
+new-requires c = omega (arith, (form (goal.at.new-requires c).Start).config.wide)
 
 pub shared_ref_as_front-standing : goal.shared_ref_as_front-standing
 shared_ref_as_front-standing c = omega (arith, (form (goal.at.shared_ref_as_front-standing c).Start).few)
 
 pub loop-r-init : goal.loop-r-init
-loop-r-init c = sofar_none c.args.l (form (goal.at.loop-r-init c).Start) _ _ _ _ refl c.fresh_pages.ensures
+loop-r-init c = sofar_none c.args.l (form (goal.at.loop-r-init c).Start) _ _ refl c.new.ensures
 
 pub replay_one-requires : goal.replay_one-requires
 unfolding standing blank_record
@@ -34,16 +34,16 @@ pub returns-then-not-replay_one : goal.returns-then-not-replay_one
 unfolding standing blank_record
 returns-then-not-replay_one c =
     let l = c.loop-r in
-    sofar_stop c.args.l (form (goal.at.returns-then-not-replay_one c).Start) l.r-index c.loop-r-test.true _ _ _ _ _ _ _ c.if-not-replay_one.true l.invariant
+    sofar_stop c.args.l (form (goal.at.returns-then-not-replay_one c).Start) l.r-index c.loop-r-test.true _ _ _ c.if-not-replay_one.true l.invariant
     (c.replay_one.ensures _ l.invariant.skies)
 
 pub loop-r-preserved : goal.loop-r-preserved
 unfolding standing blank_record
 loop-r-preserved c =
     let l = c.loop-r in
-    sofar_more c.args.l (form (goal.at.loop-r-preserved c).Start) l.r-index c.loop-r-test.true l.pages _ _ _ _ _ _ _ _ c.if-not-replay_one.false l.invariant
+    sofar_more c.args.l (form (goal.at.loop-r-preserved c).Start) l.r-index c.loop-r-test.true l.pages _ _ _ _ c.if-not-replay_one.false l.invariant
     (c.replay_one.ensures _ l.invariant.skies) c.max-pages.ensures
 
 pub returns : goal.returns
 unfolding standing
-returns c = let l = c.loop-r in sofar_done c.args.l (form (goal.at.returns c).Start) l.r-index l.pages _ _ _ (omega arith) l.invariant
+returns c = let l = c.loop-r in sofar_done c.args.l (form (goal.at.returns c).Start) l.r-index l.pages _ (omega arith) l.invariant

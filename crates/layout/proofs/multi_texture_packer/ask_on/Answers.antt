@@ -18,11 +18,11 @@ fine : (c : After-can_pack_on) → bad_size c.args.size.w c.args.size.h ≡ fals
 fine c = sym c.bad_size.ensures ∙ c.if-bad_size.false
 
 found : (c : After-can_pack_on) (rs : List Record) → let a = c.args in
-    Skies a.c rs a.pages a.xs.now a.ys.now a.ns.now → is_found (spot_on a.c (cells_on a.c rs a.page.0) a.size) ≡ c.can_pack_on.result
+    Skies a.c rs a.pages a.skies.now → is_found (spot_on a.c (cells_on a.c rs a.page.0) a.size) ≡ c.can_pack_on.result
 found c rs sk =
     let a = c.args in
     let ea = c.canvas_of-area.ensures in
-    ask-found a.c rs a.page.0 a.size _ _ _ ea c.cell_size-cell.ensures.0 (c.can_pack_on.ensures (cells_on a.c rs) (length rs) (stands_as a.c _ _ _ _ _ _ ea sk.stands))
+    ask-found a.c rs a.page.0 a.size _ _ _ ea c.cell_size-cell.ensures.0 (c.can_pack_on.ensures (cells_on a.c rs) (length rs) (stands_as a.c _ _ _ _ ea sk.stands))
 
 pub returns-then-bad_size : goal.returns-then-bad_size
 returns-then-bad_size c rs sk = ask-size rs _ _ _ (sym c.bad_size.ensures ∙ c.if-bad_size.true)
@@ -35,7 +35,7 @@ cell_size-cell-requires c = (c.requires.c_value.0, sized _ _ (sym c.bad_size.ens
 
 pub can_pack_on-requires : goal.can_pack_on-requires
 can_pack_on-requires c =
-    record { by_index = (_, (_, stands_as c.args.c _ _ _ _ _ _ c.canvas_of-area.ensures c.requires.skies.1.stands)); p_bound = (omega (arith, c.requires.c_value.1, c.if-pages-p.false), c.cell_size-cell.ensures.1) }
+    record { by_index = (_, (_, stands_as c.args.c _ _ _ _ c.canvas_of-area.ensures c.requires.skies.1.stands)); p_bound = (omega (arith, c.requires.c_value.1, c.if-pages-p.false), c.cell_size-cell.ensures.1) }
 
 pub returns : goal.returns
 returns c rs sk =

@@ -10,13 +10,10 @@ use Rattle.paint.proofs.Stacks.{shows_filled, none_passed, all_left, last_next, 
 use Rattle.paint.proofs.painting.paint_band.Goals.{After-into_iter-r-iterator}
 use Rattle.paint.proofs.painting.paint_band.Goals as goal
 
-pub shared_ref_as_front-iter : goal.shared_ref_as_front-iter
-shared_ref_as_front-iter c = (formed c.args.l c.requires.l_value.0).few
-
 -- the loop begins with all that stand
 begins : (c : After-into_iter-r-iterator) → c.into_iter-r-iterator.result.iter.rest.now ≡ standing c.args.l
-unfolding standing
-begins c = rw (c.into_iter-r-iterator.ensures.into_iter_gives, c.rev-r-items.ensures.source) c.iter.ensures.rest
+begins c =
+    rw (c.into_iter-r-iterator.ensures.into_iter_gives, c.rev-r-items.ensures.source, c.iter.ensures.rest) c.standing.ensures
 
 pub loop-r-init : goal.loop-r-init
 loop-r-init c =
