@@ -130,7 +130,7 @@ module _ (s : Stores) (i : Image) where
   answered_box k e = go (all_clear s i) e
     where
       go : (b : Bool) → cond b None (Some (smallest_box s i)) ≡ Some k → (b ≡ false) × (k ≡ smallest_box s i)
-      go true q = let z : ◌≡◌ {A = ℕ} 0 1 = cc in absurd (omega arith)
+      go true q = absurd cc
       go false q = (refl, cc)
 
 -- ## "a definition gives this paper's number and values for each of its cases"
@@ -138,8 +138,8 @@ module _ (s : Stores) (i : Image) where
 -- and no two answers have the same number and values
 pub numbers_tell : (r q : Option Rect) → trimmed_numbers r ≡ trimmed_numbers q → r ≡ q
 numbers_tell None None e = refl
-numbers_tell None (Some k) e = let z : ◌≡◌ {A = ℕ} 7 0 = cc in absurd (omega arith)
-numbers_tell (Some k) None e = let z : ◌≡◌ {A = ℕ} 0 7 = cc in absurd (omega arith)
+numbers_tell None (Some k) e = absurd cc
+numbers_tell (Some k) None e = absurd cc
 numbers_tell (Some k) (Some j) e =
     let x : k.x ≡ j.x = cc in
     let y : k.y ≡ j.y = cc in

@@ -60,6 +60,7 @@ pub fn runs_past(stores: Stores<'_>, image: Image) -> bool
 }
 
 // R G B A, for a caller that has the place already and steps from pixel to pixel.
+#[tactic(auto, unfolding(crate::specs::Stores::pixel_from))]
 pub fn pixel_from(bytes: &[u8], at: usize) -> Pixel
     requires { at + 3 < length bytes.now }
     ensures { result ≡ pixel_from bytes.now at }

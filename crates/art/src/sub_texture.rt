@@ -6,6 +6,7 @@ use crate::memory_rgba8_texture;
 use crate::memory_rgba8_texture::{Image, Pixel, Stores};
 use geometry::rect::Rect;
 
+#[tactic(auto, unfolding(crate::specs::Stores::upright_pixel))]
 pub fn get(stores: Stores<'_>, image: Image, part: Rect, x: u32, y: u32) -> Pixel
     requires in_store { InStore (lent stores) image }
     requires box_in { BoxIn part image.w image.h × (x < part.w) × (y < part.h) }

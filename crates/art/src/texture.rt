@@ -8,6 +8,7 @@ use crate::memory_rgba8_texture::{Image, Pixel, Stores};
 use crate::sub_texture;
 use geometry::rect::Rect;
 
+#[tactic(auto, unfolding(crate::specs::Stores::turned_pixel, crate::specs::Stores::turned_point))]
 pub fn get_rotated(stores: Stores<'_>, image: Image, part: Rect, x: u32, y: u32) -> Pixel
     requires in_store { InStore (lent stores) image }
     requires box_in { BoxIn part image.w image.h × (x < part.h) × (y < part.w) }

@@ -70,7 +70,7 @@ module _ (f : ℕ → ℕ → Pixel) (w first n : ℕ) (shown : List ℕ) where
     where
       go : (b : Bool) → ltb (row_off f w first n shown) n ≡ b
           → cond {A = Maybe (ℕ × ℕ)} b (Some (column_off f w first n shown (row_off f w first n shown), first + row_off f w first n shown)) None ≡ None → n ≤ row_off f w first n shown
-      go true q z = let k : ◌≡◌ {A = ℕ} 0 1 = cc in absurd (omega arith)
+      go true q z = absurd cc
       go false q z = ltb-false _ _ q
 
   pub same_shows : length shown ≡ 4 * (w * n) → compared f w first n shown ≡ None → Shows f w first n shown
@@ -123,7 +123,7 @@ module _ (f : ℕ → ℕ → Pixel) (w first n : ℕ) (shown : List ℕ) where
           let p : column_off f w first n shown (row_off f w first n shown) ≡ x = ap (λ (k : ℕ × ℕ). k.0) o in
           let r : first + row_off f w first n shown ≡ y = ap (λ (k : ℕ × ℕ). k.1) o in
           subst (λ (k : ℕ). FirstOff k y) p (subst (λ (k : ℕ). FirstOff (column_off f w first n shown (row_off f w first n shown)) k) r (found-off (ltb-true _ _ q)))
-      go false q z = let k : ◌≡◌ {A = ℕ} 0 1 = cc in absurd (omega arith)
+      go false q z = absurd cc
 
   pub off-differs : (x y : ℕ) → FirstOff x y → compared f w first n shown ≡ Some (x, y)
   unfolding column_off

@@ -39,10 +39,10 @@ a_page l p n e h = lt-leb (page_count (standing l)) p.0 (omega arith)
 
 pub done_none : (o : Option Refusal) → compose_answer o ≡ Ok tt → o ≡ none
 done_none none e = refl
-done_none (some r) e = let z : ◌≡◌ {A = ℕ} 0 1 = cc in absurd (omega arith)
+done_none (some r) e = absurd cc
 
 pub refused-some : (o : Option Refusal) (r : Refusal) → compose_answer o ≡ Err r → o ≡ some r
-refused-some none r e = let z : ◌≡◌ {A = ℕ} 0 1 = cc in absurd (omega arith)
+refused-some none r e = absurd cc
 refused-some (some q) r e = let z : q ≡ r = cc in ap some z
 
 module _ (l : Layout) (s : Stores) (p : Page) (first n len : ℕ) where
@@ -170,7 +170,7 @@ module _ (l : Layout) (s : Stores) (p : Page) (g : Background) (first n : ℕ) (
   checked_refused r = (go (band_refusal l s p first n (length shown)), λ e. ap (check_answer (compared (composed_at l s p g) (size_of_page l p).w first n shown)) e)
     where
       go : (o : Option Refusal) → check_answer (compared (composed_at l s p g) (size_of_page l p).w first n shown) o ≡ Err r → o ≡ some r
-      go none e = let z : ◌≡◌ {A = ℕ} 0 1 = cc in absurd (omega arith)
+      go none e = absurd cc
       go (some q) e = let z : q ≡ r = cc in ap some z
 
   -- any other answer is the comparison's
@@ -182,7 +182,7 @@ module _ (l : Layout) (s : Stores) (p : Page) (g : Background) (first n : ℕ) (
       go : (o : Option Refusal) → check_answer (compared (composed_at l s p g) (size_of_page l p).w first n shown) o ≡ Ok k
           → (o ≡ none) × (compared (composed_at l s p g) (size_of_page l p).w first n shown ≡ k)
       go none q = let z : compared (composed_at l s p g) (size_of_page l p).w first n shown ≡ k = cc in (refl, z)
-      go (some r) q = let z : ◌≡◌ {A = ℕ} 0 1 = cc in absurd (omega arith)
+      go (some r) q = absurd cc
 
   pub compared_checked : {k : Maybe (ℕ × ℕ)} → band_refusal l s p first n (length shown) ≡ none
       → compared (composed_at l s p g) (size_of_page l p).w first n shown ≡ k → checked_rows l s p g first n shown ≡ Ok k

@@ -125,7 +125,7 @@ module _ (f : ℕ → ℕ → Pixel) (w first n : ℕ) (shown : List ℕ) (v k :
         where
           go : (b : Bool) → ltb (first_seen passes k) k ≡ b → b ≡ false
           go false q = refl
-          go true q = let o = sym (told true q) ∙ e in let z : ◌≡◌ {A = ℕ} 0 1 = cc in absurd (omega arith)
+          go true q = let o = sym (told true q) ∙ e in absurd cc
 
       go : (j : ℕ) → j < k → (b : Bool) → passes j ≡ b → b ≡ false
       go j h false q = refl
@@ -137,7 +137,7 @@ module _ (f : ℕ → ℕ → Pixel) (w first n : ℕ) (shown : List ℕ) (v k :
   part-differs {off} s h e = go (ltb (first_seen passes k) k) refl
     where
       go : (b : Bool) → ltb (first_seen passes k) k ≡ b → compared f w first n shown ≡ Some off
-      go false q = let o = sym (told false q) ∙ e in let z : ◌≡◌ {A = ℕ} 0 1 = cc in absurd (omega arith)
+      go false q = let o = sym (told false q) ∙ e in absurd cc
       go true q =
           let below = ltb-true _ _ q in
           let r = first_seen passes k in

@@ -1,6 +1,5 @@
 -- What pixel and the sister of row of an image answer, from their tests and from the pixel found. Assumes nothing.
 use Prim.Native.Nat.{ℕ, ◌≤◌, ◌<◌}
-use native.Mathlib.Omega.{arith}
 use mathlib.Core.Path.{◌≡◌, refl, sym, ap, ◌∙◌}
 use mathlib.Core.Bool.{Bool, true, false, not}
 use mathlib.Core.List.{[], ◌∷◌}
@@ -76,8 +75,8 @@ module _ (l : Layout) (s : Stores) (p : Page) where
     refused-looked r e = go (pixel_at l s p x y) (look_refusal l s p) e
       where
         go : (k : Option Pixel) (o : Option Refusal) → look_answer k o ≡ Err r → o ≡ some r
-        go none none q = let z : ◌≡◌ {A = ℕ} 0 1 = cc in absurd (omega arith)
-        go (some k) none q = let z : ◌≡◌ {A = ℕ} 0 1 = cc in absurd (omega arith)
+        go none none q = absurd cc
+        go (some k) none q = absurd cc
         go none (some n) q = let z : n ≡ r = cc in ap some z
         go (some k) (some n) q = let z : n ≡ r = cc in ap some z
 
@@ -95,10 +94,10 @@ module _ (l : Layout) (s : Stores) (p : Page) where
     found-looked k e = go (pixel_at l s p x y) (look_refusal l s p) e
       where
         go : (q : Option Pixel) (o : Option Refusal) → look_answer q o ≡ Ok (Some k) → (o ≡ none) × (q ≡ some k)
-        go none none f = let z : ◌≡◌ {A = ℕ} 0 1 = cc in absurd (omega arith)
+        go none none f = absurd cc
         go (some q) none f = let z : q ≡ k = cc in (refl, ap some z)
-        go none (some n) f = let z : ◌≡◌ {A = ℕ} 0 1 = cc in absurd (omega arith)
-        go (some q) (some n) f = let z : ◌≡◌ {A = ℕ} 0 1 = cc in absurd (omega arith)
+        go none (some n) f = absurd cc
+        go (some q) (some n) f = absurd cc
 
     pub none-looked : looked l s p x y ≡ Ok None → (look_refusal l s p ≡ none) × (pixel_at l s p x y ≡ none)
     unfolding looked
@@ -106,9 +105,9 @@ module _ (l : Layout) (s : Stores) (p : Page) where
       where
         go : (q : Option Pixel) (o : Option Refusal) → look_answer q o ≡ Ok None → (o ≡ none) × (q ≡ none)
         go none none f = (refl, refl)
-        go (some q) none f = let z : ◌≡◌ {A = ℕ} 0 1 = cc in absurd (omega arith)
-        go none (some n) f = let z : ◌≡◌ {A = ℕ} 0 1 = cc in absurd (omega arith)
-        go (some q) (some n) f = let z : ◌≡◌ {A = ℕ} 0 1 = cc in absurd (omega arith)
+        go (some q) none f = absurd cc
+        go none (some n) f = absurd cc
+        go (some q) (some n) f = absurd cc
 
 -- ## row of an image
 
@@ -153,16 +152,8 @@ module _ (l : Layout) (s : Stores) (k : Key) (y : ℕ) where
   refused-read r e = go (read_refusal l s k y) e
     where
       go : (o : Option Refusal) → read_answer o ≡ Err r → o ≡ some r
-      go none q = let z : ◌≡◌ {A = ℕ} 0 1 = cc in absurd (omega arith)
+      go none q = absurd cc
       go (some n) q = let z : n ≡ r = cc in ap some z
-
-  pub done-read : read l s k y ≡ Ok tt → read_refusal l s k y ≡ none
-  unfolding read
-  done-read e = go (read_refusal l s k y) e
-    where
-      go : (o : Option Refusal) → read_answer o ≡ Ok tt → o ≡ none
-      go none q = refl
-      go (some n) q = let z : ◌≡◌ {A = ℕ} 0 1 = cc in absurd (omega arith)
 
   pub read-row : read_refusal l s k y ≡ first_refusal (read_row l s k y)
   unfolding read_refusal
@@ -192,9 +183,9 @@ module _ (l : Layout) (s : Stores) (k : Key) (y : ℕ) where
 
 pub looked_tells : (a b : Result (Maybe Pixel) Refusal) → looked_numbers a ≡ looked_numbers b → a ≡ b
 looked_tells (Ok None) (Ok None) e = refl
-looked_tells (Ok None) (Ok (Some k)) e = let z : ◌≡◌ {A = ℕ} 0 1 = cc in absurd (omega arith)
+looked_tells (Ok None) (Ok (Some k)) e = absurd cc
 looked_tells (Ok None) (Err r) e = let z : 0 ≡ number_of r = cc in absurd (number-some r (sym z))
-looked_tells (Ok (Some k)) (Ok None) e = let z : ◌≡◌ {A = ℕ} 1 0 = cc in absurd (omega arith)
+looked_tells (Ok (Some k)) (Ok None) e = absurd cc
 looked_tells (Ok (Some k)) (Ok (Some j)) e =
     let r : k.r ≡ j.r = cc in
     let g : k.g ≡ j.g = cc in

@@ -6,44 +6,31 @@ use mathlib.Core.Path.{◌≡◌, refl, sym, ap, ◌∙◌, subst}
 use mathlib.Core.Bool.{true, false}
 use mathlib.Core.List.{List}
 use mathlib.Core.Option.{Option, none, some}
-use lib.ListN.{length, get_or, take, drop}
+use lib.ListN.{length, take, drop}
 use denote.Ref.{Bor}
-use Rattle.geometry.specs.Words.{any, or_else}
+use Rattle.geometry.specs.Words.{any}
 use Rattle.art.specs.Stores.{Stores, lent, of_store, bytes_of, runs_past, place_of}
 use Rattle.art.specs.declared.memory_rgba8_texture.Store.{Store}
 use Rattle.art.specs.declared.memory_rgba8_texture.Stores.{Stores as LentStores}
 use Rattle.art.specs.declared.memory_rgba8_texture.Store.TheVariants.{Symbols, Wording}
 use Rattle.art.proofs.Places.{row_in, in_store}
-use Rattle.records.specs.Settings.{blank_record}
 use Rattle.records.specs.Records.{image_of}
-use Rattle.records.specs.Layouts.{standing, has_key, record_of, record_named, key_place}
+use Rattle.records.specs.Layouts.{standing, well_formed, has_key, record_of, record_named}
 use Rattle.records.specs.declared.frame.Key.{Key}
 use Rattle.records.specs.declared.frame.Record.{Record}
 use Rattle.records.specs.declared.layout.Layout.{Layout}
 use Rattle.records.specs.declared.refusal.Refusal.{Refusal}
-use Rattle.records.proofs.Keys.{named, unnamed, stands-below}
-use Rattle.records.proofs.Standing.{standing-long, standing-at}
+use Rattle.records.proofs.Checks.{Good, formed}
+use Rattle.records.proofs.Keys.{keyed, named, stands-below}
 use Rattle.lookup.specs.Reading.{read_refusal, Part, row_part, empty_part, part_answer, part_read, IsPart}
 
--- ## the record that a key names, by its place
+-- ## the record that a key names is one that stands
 
-module _ (l : Layout) (long : length l.records ≡ 256) (few : l.count ≤ 256) (k : Key) (at : ℕ) (is-place : at ≡ key_place k (standing l)) where
-  pub not_named : l.count ≤ at → any (has_key k) (standing l) ≡ false
-  not_named h = let n = standing-long l long few in (unnamed k (standing l) (omega arith)).stands
-
-  pub is-named : at < l.count → any (has_key k) (standing l) ≡ true
-  is-named h = let n = standing-long l long few in (named k (standing l) (omega arith)).stands
-
-  pub named-below : any (has_key k) (standing l) ≡ true → at < l.count
-  named-below e = let n = standing-long l long few in let h = stands-below k (standing l) e in omega arith
-
-  pub named-is : at < l.count → record_named l k ≡ get_or l.records at blank_record
-  unfolding record_named record_of
-  named-is h =
-      let n = standing-long l long few in
-      ap (λ (o : Option Record). or_else o blank_record) (named k (standing l) (omega arith)).is
-      ∙ ap (λ (j : ℕ). get_or (standing l) j blank_record) (sym is-place)
-      ∙ standing-at l long few blank_record at h
+pub named-good : (l : Layout) → well_formed l ≡ true → (k : Key) → any (has_key k) (standing l) ≡ true → Good l.config (record_named l k)
+unfolding record_of
+named-good l e k stands =
+    let below = stands-below k (standing l) stands in
+    subst (Good l.config) (sym (keyed l k (named k (standing l) below).is).1) ((formed l e).at _ below)
 
 -- ## the part
 

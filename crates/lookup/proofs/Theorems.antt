@@ -127,7 +127,7 @@ module _ (l : Layout) (p : Page) (x y : ℕ) where
           go q (inr o) = absurd (never (sym q ∙ unowned s o))
             where
               never : some k ≡ none → ⊥
-              never w = let z : ◌≡◌ {A = ℕ} 0 1 = cc in omega arith
+              never w = cc
 
       back : (look_refusal l s p ≡ none) × ((i : ℕ) × Owns i × (k ≡ frame_pixel l.config s (standing_at l i) x y)) → looked l s p x y ≡ Ok (Some k)
       back h =
@@ -145,7 +145,7 @@ module _ (l : Layout) (p : Page) (x y : ℕ) where
           go q (inl o) = absurd (never (sym q ∙ owned s o.0 o.1))
             where
               never : {a : Pixel} → none ≡ some a → ⊥
-              never w = let z : ◌≡◌ {A = ℕ} 0 1 = cc in omega arith
+              never w = cc
           go q (inr o) = o
 
 -- ## "If e is at most b+p, zones on one page of a faithful layout share no pixel."

@@ -1,11 +1,10 @@
 -- The code's rows of tests are the definitions'. Assumes nothing.
-use Prim.Native.Nat.{ℕ, ◌+◌, ◌-◌, ◌≤◌, ◌<◌}
-use native.Mathlib.Omega.{arith}
+use Prim.Native.Nat.{ℕ, ◌+◌, ◌≤◌, ◌<◌}
 use mathlib.Core.Path.{◌≡◌, refl, sym, ap, ◌∙◌}
 use mathlib.Core.Bool.{Bool, true, false, not, ◌&&◌, beq}
 use mathlib.Core.List.{[], ◌∷◌}
 use lib.Dec.{leb, ltb, eqb}
-use borrow.Author.Tests.{leb-true, leb-false, le-leb, lt-leb}
+use borrow.Author.Tests.{le-leb, lt-leb}
 use Rattle.geometry.specs.Words.{all_of, all, within}
 use Rattle.geometry.specs.Placing.{turn_number}
 use Rattle.geometry.specs.declared.rect.Rect.{Rect}
@@ -19,19 +18,12 @@ use Rattle.geometry.specs.declared.spot.Turn.{Turn}
 use Rattle.geometry.specs.declared.spot.Turn.TheVariants.{Upright, Turned}
 use denote.Enum.Bare.{sameb}
 use Rattle.records.specs.Settings.{in_bounds, blank_record}
-use Rattle.records.specs.Records.{store_number, all_zero, is_blank, whole_of, box_of, lies_in, box_inside, record_well_formed}
+use Rattle.records.specs.Records.{store_number, all_zero, is_blank, whole_of, box_of, box_inside, record_well_formed}
 use Rattle.records.specs.Layouts.{standing, unused, well_formed}
 use Rattle.records.specs.declared.texture_packer_config.Config.{Config}
 use Rattle.records.specs.declared.frame.Record.{Record}
 use Rattle.records.specs.declared.layout.Layout.{Layout}
 use Rattle.records.proofs.Rows.{joined, each_joined}
-
-pub config-row : (c : Config) (a b f g : Bool) → a ≡ within 1 4096 c.maxw → b ≡ within 1 4096 c.maxh → f ≡ within 1 8 c.pages → g ≡ within 1 256 c.images
-    → ((((((a && b) && leb c.padding 64) && leb c.border 64) && leb c.extrusion 16) && f) && g) ≡ in_bounds c
-unfolding in_bounds
-config-row c a b f g ea eb ef eg =
-    joined a (b ∷ leb c.padding 64 ∷ leb c.border 64 ∷ leb c.extrusion 16 ∷ f ∷ g ∷ []) _
-    (ea, (eb, (refl, (refl, (refl, (ef, (eg, tt)))))))
 
 is_upright : (t : Turn) → sameb turns t Upright ≡ eqb (turn_number t) 0
 is_upright Upright = refl
@@ -86,18 +78,6 @@ blank_row r b e =
     ))
 
 -- ## a record
-
-pub lies_out : (a n whole : ℕ) → whole < a → false ≡ lies_in a n whole
-unfolding lies_in
-lies_out a n whole h = sym (and_no_right (leb 1 n) (leb (a + n) whole) (lt-leb (a + n) whole (omega arith)))
-
-pub lies-row : (a n whole : ℕ) → a ≤ whole → (leb 1 n && leb n (whole - a)) ≡ lies_in a n whole
-unfolding lies_in
-lies-row a n whole h = ap (λ (b : Bool). leb 1 n && b) (go (leb n (whole - a)) refl)
-  where
-    go : (b : Bool) → leb n (whole - a) ≡ b → leb n (whole - a) ≡ leb (a + n) whole
-    go true e = e ∙ sym (le-leb (a + n) whole (omega (arith, leb-true n (whole - a) e)))
-    go false e = e ∙ sym (lt-leb (a + n) whole (omega (arith, leb-false n (whole - a) e)))
 
 pub record_row : (c : Config) (r : Record) (k : Rect) (whole : Size) (w h x y i : Bool) → k ≡ box_of r → whole ≡ whole_of r
     → w ≡ within 1 2048 whole.w → h ≡ within 1 2048 whole.h

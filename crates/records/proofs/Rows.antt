@@ -100,7 +100,7 @@ module _ (b : Bool) (r : Refusal) (cs : Row) where
   passed e = go b e
     where
       go : (t : Bool) → cond t (some r) (first_refusal cs) ≡ none → (t ≡ false) × (first_refusal cs ≡ none)
-      go true q = let z : ◌≡◌ {A = ℕ} 0 1 = cc in absurd (omega arith)
+      go true q = absurd cc
       go false q = (refl, q)
 
 pub none_left : first_refusal [] ≡ none
@@ -120,7 +120,7 @@ first-is (c ∷ cs) (inr h) = rw h.0 (first-is cs h.1)
 
 pub is-first : (cs : Row) {r : Refusal} → first_refusal cs ≡ some r → First cs r
 unfolding first_refusal
-is-first [] e = let z : ◌≡◌ {A = ℕ} 0 1 = cc in absurd (omega arith)
+is-first [] e = absurd cc
 is-first (c ∷ cs) {r} e = go c.0 refl e (λ q. is-first cs q)
   where
     go : (t : Bool) → c.0 ≡ t → cond t (some c.1) (first_refusal cs) ≡ some r → (first_refusal cs ≡ some r → First cs r) → First (c ∷ cs) r

@@ -1,39 +1,23 @@
--- The standing records and the unused places, one after the other, in a layout of 256 places. Assumes nothing.
+-- The standing records, one after the other, in a layout of 256 places. Assumes nothing.
 use Prim.Native.Nat.{ℕ, zero, suc, ◌+◌, ◌≤◌, ◌<◌}
 use native.Mathlib.Omega.{arith}
 use native.Mathlib.Numerals.{add-one}
 use mathlib.Core.Path.{◌≡◌, refl, sym, ap, ◌∙◌, subst}
-use mathlib.Core.Bool.{Bool, true, false, ◌&&◌}
+use mathlib.Core.Bool.{Bool}
 use mathlib.Core.List.{List, [], ◌∷◌, ◌++◌}
-use lib.ListN.{length, get_or, take, drop, drop_of_length-le}
-use lib.Seq.{take-suc, drop-cons, length-take-le, take_all, get_or-take}
-use Rattle.geometry.specs.Words.{all}
+use lib.ListN.{length, get_or, take, drop}
+use lib.Seq.{take-suc, drop-cons, length-take-le, get_or-take}
 use Rattle.records.specs.Settings.{blank_record}
-use Rattle.records.specs.Records.{is_blank}
-use Rattle.records.specs.Layouts.{standing, unused}
+use Rattle.records.specs.Layouts.{standing}
 use Rattle.records.specs.declared.frame.Record.{Record}
 use Rattle.records.specs.declared.layout.Layout.{Layout}
 use Rattle.records.proofs.Checks.{Good, Formed}
 
--- ## a test over what is left of a list, from index i on
+-- ## what is left of a list, from index i on
 
 module _ {A : Type 0} (t : A → Bool) (l : List A) (d : A) where
   pub rest_next : (i : ℕ) → i < length l → drop i l ≡ get_or l i d ∷ drop (i + 1) l
   rest_next i h = drop-cons l i d h ∙ ap (λ (j : ℕ). get_or l i d ∷ drop j l) (sym (add-one i))
-
-  step : (i : ℕ) (b : Bool) → i < length l → b ≡ t (get_or l i d) → all t (drop i l) ≡ (b && all t (drop (i + 1) l))
-  unfolding all
-  step i b h e = ap (all t) (rest_next i h) ∙ ap (λ (z : Bool). z && all t (drop (i + 1) l)) (sym e)
-
-  pub rest_stop : (i : ℕ) (b : Bool) → i < length l → b ≡ t (get_or l i d) → b ≡ false → all t (drop i l) ≡ false
-  rest_stop i b h e f = step i false h (sym f ∙ e)
-
-  pub rest_more : (i : ℕ) (b : Bool) → i < length l → b ≡ t (get_or l i d) → b ≡ true → all t (drop (i + 1) l) ≡ all t (drop i l)
-  rest_more i b h e f = sym (step i true h (sym f ∙ e))
-
-  pub rest-done : (i : ℕ) → length l ≤ i → all t (drop i l) ≡ true
-  unfolding all
-  rest-done i h = ap (all t) (drop_of_length-le l h)
 
 -- ## some of a list, and one more
 
@@ -51,17 +35,6 @@ module _ (l : Layout) (long : length l.records ≡ 256) (few : l.count ≤ 256) 
   unfolding standing
   standing-at d i h = get_or-take l.count l.records i d h
 
-  -- one record more
-  pub standing_next : (d : Record) (i : ℕ) → i < l.count → take (i + 1) (standing l) ≡ take i (standing l) ++ get_or l.records i d ∷ []
-  standing_next d i h =
-      let n = standing-long in
-      ap (λ (j : ℕ). take j (standing l)) (add-one i)
-      ∙ take-suc (standing l) i d (omega arith)
-      ∙ ap (λ (r : Record). take i (standing l) ++ r ∷ []) (standing-at d i h)
-
-  pub standing-whole : (i : ℕ) → l.count ≤ i → take i (standing l) ≡ standing l
-  standing-whole i h = let n = standing-long in take_all i (standing l) (omega arith)
-
 pub standing-good : (l : Layout) → length l.records ≡ 256 → (f : Formed l) → (d : Record) (i : ℕ) → i < l.count → Good l.config (get_or l.records i d)
 standing-good l long f d i h =
     let n = standing-long l long f.few in
@@ -71,9 +44,3 @@ standing-good l long f d i h =
     same [] i g = absurd (omega arith)
     same (r ∷ rs) zero g = refl
     same (r ∷ rs) (suc i) g = same rs i (omega arith)
-
--- ## the unused places
-
-pub unused-from : (l : Layout) → all is_blank (drop l.count l.records) ≡ all is_blank (unused l)
-unfolding unused
-unused-from l = refl

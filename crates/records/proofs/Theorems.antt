@@ -51,24 +51,24 @@ module _ (c : Config) where
     where
       go : (opened c).answer ≡ Ok tt → (in_bounds c ≡ true) ⊎ (in_bounds c ≡ false) → in_bounds c ≡ true
       go e (inl b) = b
-      go e (inr b) = let a = answer_of (opened-refused c b) in let z : ◌≡◌ {A = ℕ} 0 1 = cc in absurd (omega arith)
+      go e (inr b) = let a = answer_of (opened-refused c b) in absurd cc
 
   -- 1: configuration out of bounds; and no other number
   pub open_1 : (r : Refusal) → (opened c).answer ≡ Err r ↔ (r ≡ OutOfBounds) × (in_bounds c ≡ false)
   open_1 r = (λ e. go e (either (in_bounds c)), λ h. answer_of (opened-refused c h.1) ∙ ap Err (sym h.0))
     where
       go : (opened c).answer ≡ Err r → (in_bounds c ≡ true) ⊎ (in_bounds c ≡ false) → (r ≡ OutOfBounds) × (in_bounds c ≡ false)
-      go e (inl b) = let a = answer_of (opened-done c b) in let z : ◌≡◌ {A = ℕ} 0 1 = cc in absurd (omega arith)
+      go e (inl b) = let a = answer_of (opened-done c b) in absurd cc
       go e (inr b) = let a = answer_of (opened-refused c b) in ((cc), b)
 
 module _ (l : Layout) (p : Page) where
   answered : {r : Refusal} (o : Option Refusal) → size_answer (size_of_page l p) o ≡ Err r → o ≡ some r
-  answered none e = let z : ◌≡◌ {A = ℕ} 0 1 = cc in absurd (omega arith)
+  answered none e = absurd cc
   answered (some q) e = cc
 
   given : {s : Size} (o : Option Refusal) → size_answer (size_of_page l p) o ≡ Ok s → (o ≡ none) × (s ≡ size_of_page l p)
   given none e = (refl, (cc))
-  given (some q) e = let z : ◌≡◌ {A = ℕ} 0 1 = cc in absurd (omega arith)
+  given (some q) e = absurd cc
 
   refusal_of : {r : Refusal} → page_sized l p ≡ Err r → size_refusal l p ≡ some r
   unfolding page_sized

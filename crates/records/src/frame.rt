@@ -37,6 +37,7 @@ pub struct Record {
     pub offset: u32,
 }
 
+#[tactic(auto, unfolding(crate::specs::Settings::blank_record))]
 pub fn blank_record() -> Record
     ensures { result ≡ blank_record }
 {
@@ -75,6 +76,7 @@ pub fn is_blank(r: Record) -> bool
 }
 
 // The record's trim box.
+#[tactic(auto, unfolding(crate::specs::Records::box_of, crate::specs::Records::size_of))]
 pub fn box_of(r: Record) -> Rect
     ensures { result ≡ box_of r }
 {
@@ -90,6 +92,7 @@ pub fn box_of(r: Record) -> Rect
     }
 }
 
+#[tactic(auto, unfolding(crate::specs::Records::whole_of))]
 pub fn whole_of(r: Record) -> Size
     ensures { result ≡ whole_of r }
 {
@@ -97,6 +100,7 @@ pub fn whole_of(r: Record) -> Size
     Size { w: s.w, h: s.h }
 }
 
+#[tactic(auto, unfolding(crate::specs::Records::image_of))]
 pub fn image_of(r: Record) -> Image
     ensures { result ≡ image_of r }
 {
@@ -111,6 +115,7 @@ pub fn image_of(r: Record) -> Image
 }
 
 // A span of n numbers from a on, not empty, within the numbers below `whole`; by subtraction, so that no sum overflows.
+#[tactic(auto, unfolding(crate::specs::Records::lies_in))]
 fn lies_in(a: u32, n: u32, whole: u32) -> bool
     ensures { result ≡ lies_in a n whole }
 {
@@ -120,6 +125,7 @@ fn lies_in(a: u32, n: u32, whole: u32) -> bool
     (1 <= n) & (n <= whole - a)
 }
 
+#[tactic(auto, unfolding(crate::specs::Records::box_inside))]
 pub fn box_inside(k: Rect, whole: Size) -> bool
     ensures { result ≡ box_inside k whole }
 {

@@ -47,6 +47,7 @@ pub struct Answered<A> {
 
 pub type Opening = Answered<Result<(), Refusal>>;
 
+#[tactic(auto, unfolding(crate::specs::Settings::empty_layout))]
 pub fn empty_layout(c: Config) -> Layout
     ensures { result ≡ empty_layout c }
 {
@@ -59,6 +60,7 @@ pub fn empty_layout(c: Config) -> Layout
 }
 
 // open: 1
+#[tactic(auto, unfolding(crate::specs::Operations::opened, crate::specs::Operations::open_refusal, crate::specs::Operations::open_row, crate::specs::Refusals::first_refusal))]
 pub fn open(c: Config) -> Opening
     ensures value { result ≡ opened c }
     ensures answer_value { opened_numbers result.answer ≡ opened_numbers (opened c).answer }
@@ -147,6 +149,7 @@ fn frame_ends(l: Layout, page: Page) -> Size
 }
 
 // The maxima if forced; else where the page's frames end. For callers that have asked `well_formed`.
+#[tactic(auto, unfolding(crate::specs::Layouts::size_of_page))]
 pub fn size_of_page(l: Layout, page: Page) -> Size
     requires { well_formed l ≡ true }
     ensures { result ≡ size_of_page l page }
@@ -162,6 +165,7 @@ pub fn size_of_page(l: Layout, page: Page) -> Size
 }
 
 // page size: 2 11
+#[tactic(auto, unfolding(crate::specs::Operations::page_sized, crate::specs::Operations::size_refusal, crate::specs::Operations::size_row, crate::specs::Operations::no_such_page, crate::specs::Refusals::first_refusal))]
 pub fn page_size(l: Layout, page: Page) -> Result<Size, Refusal>
     ensures value { result ≡ page_sized l page }
     ensures result_value { sized_numbers result ≡ sized_numbers (page_sized l page) }

@@ -24,6 +24,7 @@ pub fn is_within(a: u32, b: u32, n: u32) -> bool
     (a..=b).contains(&n)
 }
 
+#[tactic(auto, unfolding(crate::specs::Settings::in_bounds, geometry::specs::Words::all_of))]
 pub fn in_bounds(c: Config) -> bool
     ensures { result ≡ in_bounds c }
 {
@@ -36,6 +37,7 @@ pub fn in_bounds(c: Config) -> bool
         & is_within(1, 256, c.images)
 }
 
+#[tactic(auto, unfolding(crate::specs::Settings::blank_config))]
 pub fn blank_config() -> Config
     ensures { result ≡ blank_config }
 {

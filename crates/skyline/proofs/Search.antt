@@ -4,6 +4,7 @@ use Prim.Native.Nat.{ℕ, ◌+◌, ◌-◌, ◌≤◌, ◌<◌, min}
 use mathlib.Core.Path.{◌≡◌, refl, sym, ap, ◌∙◌}
 use mathlib.Core.Bool.{Bool, true, false, cond, ◌&&◌, ◌||◌}
 use mathlib.Core.List.{List, [], ◌∷◌, map}
+use mathlib.Core.Logic.{inl, inr}
 use native.Mathlib.Omega.{arith}
 use native.Mathlib.Decide.{dec_le}
 use lib.Dec.{leb}
@@ -16,7 +17,7 @@ use Rattle.geometry.specs.Words.{any, only, flat}
 use Rattle.geometry.specs.Placing.{is_start, starts_from, segment, top, lying, cell_at, spot_at, inside, orientations, fitting_at, candidates_from, rank, better, best_of, spot_for, is_found}
 use Rattle.geometry.specs.Fits.{HasPixels}
 use Rattle.geometry.specs.Choice.{choice, lowest}
-use Rattle.skyline.specs.Skyline.{fitted}
+use Rattle.skyline.specs.Skyline.{fitted, TooSmall, Limits}
 use Rattle.geometry.proofs.Words.{and_no_left, and_no_right, or_no_left, or_no_right}
 use Rattle.geometry.proofs.Ranks.{best_append, best_some}
 use Rattle.geometry.proofs.Choices.{rank-bottom}
@@ -185,47 +186,52 @@ module _ (p : Turn → Bool) (rotation : Bool) where
 -- ## one start, one orientation
 
 module _ (f : ℕ → ℕ) (area : Size) (size : Size) (s : ℕ) where
-  pub outside-wide : area.w < s + size.w → false ≡ inside area (cell_at f size s)
+  outside-wide : area.w < s + size.w → false ≡ inside area (cell_at f size s)
   unfolding inside cell_at
   outside-wide l = sym (and_no_left (leb (s + size.w) area.w) (leb (top f s size.w + size.h) area.h) (lt-leb _ _ l))
 
-  pub outside_low : area.h < size.h → false ≡ inside area (cell_at f size s)
+  outside_low : area.h < size.h → false ≡ inside area (cell_at f size s)
   unfolding inside cell_at
   outside_low l = sym (and_no_right (leb (s + size.w) area.w) (leb (top f s size.w + size.h) area.h) (lt-leb (top f s size.w + size.h) area.h (omega arith)))
 
-  pub inside_under : (k : ℕ) → k ≡ size.w → s + size.w ≤ area.w → size.h ≤ area.h
-      → leb (top f s k) (area.h - size.h) ≡ inside area (cell_at f size s)
-  unfolding inside cell_at
-  inside_under k e l m =
-      ap (λ (j : ℕ). leb (top f s j) (area.h - size.h)) e
-      ∙ shift (top f s size.w) size.h area.h m
-      ∙ sym (ap (λ (b : Bool). b && leb (top f s size.w + size.h) area.h) (le-leb (s + size.w) area.w l))
-    where
-      shift : (x y z : ℕ) → y ≤ z → leb x (z - y) ≡ leb (x + y) z
-      shift x y z h = go (dec_le x (z - y))
-        where
-          go : Dec (x ≤ z - y) → leb x (z - y) ≡ leb (x + y) z
-          go (yes q) = le-leb x (z - y) q ∙ sym (le-leb (x + y) z (omega arith))
-          go (no q) = lt-leb x (z - y) (omega arith) ∙ sym (lt-leb (x + y) z (omega arith))
+  pub outside : TooSmall area size s → false ≡ inside area (cell_at f size s)
+  outside (inl l) = outside-wide l
+  outside (inr l) = outside_low l
 
   pub not-put : (turn : Turn) → false ≡ inside area (cell_at f size s) → None ≡ fitted area (spot_at f area.w turn size s)
   unfolding spot_at
   not-put turn e = sym (unfitted area (spot_at f area.w turn size s) (sym e))
 
-  pub put_low : (turn : Turn) (y k : ℕ) → y ≡ top f s k → k ≡ size.w → s + size.w ≤ area.w → size.h ≤ area.h → area.h - size.h < y
-      → None ≡ fitted area (spot_at f area.w turn size s)
-  put_low turn y k p e l m h =
-      let q = ap (top f s) e in
-      not-put turn (sym (lt-leb (top f s k) (area.h - size.h) (omega arith)) ∙ inside_under k e l m)
+  module _ (end most : ℕ) (li : Limits area size s end most) where
+    as_wide : end - s ≡ size.w
+    as_wide = omega (arith, li.across)
 
-  pub put-here : (turn : Turn) (y k b g : ℕ) → s + size.w ≤ area.w → y ≡ top f s k → k ≡ size.w → y + size.h ≤ area.h → b ≡ y + size.h - 1 → segment f area.w s ≡ g
-      → Some (record { at = record { x = s; y = y; w = size.w; h = size.h }; bottom = b; segment = g; turn = turn }) ≡ fitted area (spot_at f area.w turn size s)
-  unfolding fitted inside spot_at cell_at
-  put-here turn y k b g l p e m u r =
-      let q : y ≡ top f s size.w = p ∙ ap (top f s) e in
-      let t : top f s size.w + size.h ≤ area.h = omega arith in
-      let v : b ≡ top f s size.w + size.h - 1 = omega arith in
-      simp (le-leb _ _ l, le-leb _ _ t) (λ i. Some (record { at = record { x = s; y = q i; w = size.w; h = size.h }; bottom = v i; segment = sym r i; turn = turn }))
+    pub inside_under : leb (top f s (end - s)) most ≡ inside area (cell_at f size s)
+    unfolding inside cell_at
+    inside_under =
+        ap (λ (j : ℕ). leb (top f s j) most) as_wide
+        ∙ shift (top f s size.w)
+        ∙ sym (ap (λ (b : Bool). b && leb (top f s size.w + size.h) area.h) (le-leb (s + size.w) area.w (omega (arith, li.across, li.in_area))))
+      where
+        shift : (x : ℕ) → leb x most ≡ leb (x + size.h) area.h
+        shift x = go (dec_le x most)
+          where
+            go : Dec (x ≤ most) → leb x most ≡ leb (x + size.h) area.h
+            go (yes q) = le-leb x most q ∙ sym (le-leb (x + size.h) area.h (omega (arith, li.down)))
+            go (no q) = lt-leb x most (omega arith) ∙ sym (lt-leb (x + size.h) area.h (omega (arith, li.down)))
+
+    pub put_low : (turn : Turn) (y : ℕ) → y ≡ top f s (end - s) → most < y → None ≡ fitted area (spot_at f area.w turn size s)
+    put_low turn y p e = not-put turn (sym (lt-leb (top f s (end - s)) most (omega arith)) ∙ inside_under)
+
+    pub put-here : (turn : Turn) (y b g : ℕ) → y ≡ top f s (end - s) → y ≤ most → b ≡ y + size.h - 1 → segment f area.w s ≡ g
+        → Some (record { at = record { x = s; y = y; w = size.w; h = size.h }; bottom = b; segment = g; turn = turn }) ≡ fitted area (spot_at f area.w turn size s)
+    unfolding fitted inside spot_at cell_at
+    put-here turn y b g p m u r =
+        let q : y ≡ top f s size.w = p ∙ ap (top f s) as_wide in
+        let l : s + size.w ≤ area.w = omega (arith, li.across, li.in_area) in
+        let t : top f s size.w + size.h ≤ area.h = omega (arith, li.down) in
+        let v : b ≡ top f s size.w + size.h - 1 = omega arith in
+        simp (le-leb _ _ l, le-leb _ _ t) (λ i. Some (record { at = record { x = s; y = q i; w = size.w; h = size.h }; bottom = v i; segment = sym r i; turn = turn }))
 
 -- ## the search, a segment at a time
 

@@ -3,104 +3,11 @@ use Rattle.std.specs.Prelude.{Option, Some, None, MatchOption, EachIndex, slice_
 use Prim.Native.Nat.{ℕ, zero, suc, ◌+◌, ◌-◌, ◌≤◌, ◌<◌, max}
 use mathlib.Core.Path.{◌≡◌, refl, sym, ap, ◌∙◌}
 use native.Mathlib.Omega.{arith}
-use native.Mathlib.Decide.{ℕ_discrete, dec_lt}
-use lib.ListN.{length, get_or, take, set, length-set}
-use lib.Seq.{get_or-set_same, get_or-set_other, get_or-take, length-take-le}
+use native.Mathlib.Decide.{dec_lt}
+use lib.ListN.{length, get_or, take}
+use lib.Seq.{get_or-take, length-take-le}
 use Rattle.skyline.specs.declared.skyline.Skyline.{Skyline}
-use Rattle.skyline.specs.Skyline.{edge, Shape, Level, Untouched, Pushed, Kept, Starts, Raised, Part, Ahead, Walked}
-
-module _ (old : Skyline) (y e : ℕ) (sh : Shape (edge old) old) (up : edge old < e) (more : old.n + 1 < 258) where
-  at : (i : ℕ) → i < old.n → get_or (set old.xs old.n e) i 0 ≡ get_or old.xs i 0
-  at i l = get_or-set_other old.xs old.n i e 0 (λ q. omega arith)
-
-  same : get_or (set old.xs old.n e) old.n 0 ≡ e
-  same = get_or-set_same old.xs old.n e 0 (omega (arith, sh.wide-x))
-
-  -- the last segment has the height already
-  pub push_merge : (k : ℕ) → k + 1 ≡ old.n → get_or old.ys k 0 ≡ y → Pushed old y e (record { xs = set old.xs old.n e; ys = old.ys; n = old.n })
-  push_merge k kn ky = record {
-    shape = record {
-      wide-x = length-set old.xs old.n e ∙ sh.wide-x;
-      wide-y = sh.wide-y;
-      room = sh.room;
-      first = at 0 (omega arith) ∙ sh.first;
-      last = same;
-      rises = λ i l. rise i l (ℕ_discrete (i + 1) old.n);
-      steps = sh.steps;
-    };
-    count = omega arith;
-    level = λ f lv new i c l a b. lev f lv new i c l (ℕ_discrete (i + 1) old.n) a b;
-    untouched = record { after-x = λ i l. get_or-set_other old.xs old.n i e 0 (λ q. omega arith); after-y = λ i l. refl };
-  }
-    where
-      rise : (i : ℕ) → i < old.n → Dec (i + 1 ≡ old.n) → get_or (set old.xs old.n e) i 0 < get_or (set old.xs old.n e) (i + 1) 0
-      rise i l (yes q) = let r = sh.rises i l in let p = at i l in let z = ap (λ (j : ℕ). get_or (set old.xs old.n e) j 0) q in let v = ap (λ (j : ℕ). get_or old.xs j 0) q in let s = same in omega arith
-      rise i l (no q) = let r = sh.rises i l in let p = at i l in let z = at (i + 1) (omega arith) in omega arith
-
-      lev : (f : ℕ → ℕ) → Level f old → ((c : ℕ) → get_or old.xs old.n 0 ≤ c → c < e → f c ≡ y) → (i c : ℕ) → i < old.n → Dec (i + 1 ≡ old.n)
-          → get_or (set old.xs old.n e) i 0 ≤ c → c < get_or (set old.xs old.n e) (i + 1) 0 → f c ≡ get_or old.ys i 0
-      lev f lv new i c l (no q) a b = let p = at i l in let z = at (i + 1) (omega arith) in lv i c l (omega arith) (omega arith)
-      lev f lv new i c l (yes q) a b = old_or_new (dec_lt c (get_or old.xs old.n 0))
-        where
-          old_or_new : Dec (c < get_or old.xs old.n 0) → f c ≡ get_or old.ys i 0
-          old_or_new (yes lt) = let p = at i l in let v = ap (λ (j : ℕ). get_or old.xs j 0) q in lv i c l (omega arith) (omega arith)
-          old_or_new (no ge) =
-              let z = ap (λ (j : ℕ). get_or (set old.xs old.n e) j 0) q in
-              let s = same in
-              let ki : k ≡ i = omega arith in
-              new c (omega arith) (omega arith) ∙ sym ky ∙ ap (λ (j : ℕ). get_or old.ys j 0) ki
-
-  x-at : (i : ℕ) → i ≤ old.n → get_or (set old.xs (old.n + 1) e) i 0 ≡ get_or old.xs i 0
-  x-at i l = get_or-set_other old.xs (old.n + 1) i e 0 (λ q. omega arith)
-
-  x-same : (i : ℕ) → i ≡ old.n → get_or (set old.xs (old.n + 1) e) (i + 1) 0 ≡ e
-  x-same i q = ap (λ (j : ℕ). get_or (set old.xs (old.n + 1) e) (j + 1) 0) q ∙ get_or-set_same old.xs (old.n + 1) e 0 (omega (arith, sh.wide-x))
-
-  y-at : (i : ℕ) → i < old.n → get_or (set old.ys old.n y) i 0 ≡ get_or old.ys i 0
-  y-at i l = get_or-set_other old.ys old.n i y 0 (λ q. omega arith)
-
-  -- one segment more
-  pub push_new : ((k : ℕ) → k + 1 ≡ old.n → get_or old.ys k 0 ≡ y → ⊥) → Pushed old y e (record { xs = set old.xs (old.n + 1) e; ys = set old.ys old.n y; n = old.n + 1 })
-  push_new ne = record {
-    shape = record {
-      wide-x = length-set old.xs (old.n + 1) e ∙ sh.wide-x;
-      wide-y = length-set old.ys old.n y ∙ sh.wide-y;
-      room = more;
-      first = x-at 0 (omega arith) ∙ sh.first;
-      last = x-same old.n refl;
-      rises = λ i l. rise i l (ℕ_discrete i old.n);
-      steps = λ i l. step i l (ℕ_discrete (i + 1) old.n);
-    };
-    count = omega arith;
-    level = λ f lv new i c l a b. lev f lv new i c l (ℕ_discrete i old.n) a b;
-    untouched = record {
-      after-x = λ i l. get_or-set_other old.xs (old.n + 1) i e 0 (λ q. omega arith);
-      after-y = λ i l. get_or-set_other old.ys old.n i y 0 (λ q. omega arith);
-    };
-  }
-    where
-      y-same : (i : ℕ) → i ≡ old.n → get_or (set old.ys old.n y) i 0 ≡ y
-      y-same i q = ap (λ (j : ℕ). get_or (set old.ys old.n y) j 0) q ∙ get_or-set_same old.ys old.n y 0 (omega (arith, sh.wide-y))
-
-      rise : (i : ℕ) → i < old.n + 1 → Dec (i ≡ old.n) → get_or (set old.xs (old.n + 1) e) i 0 < get_or (set old.xs (old.n + 1) e) (i + 1) 0
-      rise i l (yes q) = let p = x-at i (omega arith) in let z = x-same i q in let v = ap (λ (j : ℕ). get_or old.xs j 0) q in omega arith
-      rise i l (no q) = let r = sh.rises i (omega arith) in let p = x-at i (omega arith) in let z = x-at (i + 1) (omega arith) in omega arith
-
-      step : (i : ℕ) → i + 1 < old.n + 1 → Dec (i + 1 ≡ old.n) → get_or (set old.ys old.n y) i 0 ≡ get_or (set old.ys old.n y) (i + 1) 0 → ⊥
-      step i l (yes q) h = ne i q (sym (y-at i (omega arith)) ∙ h ∙ y-same (i + 1) q)
-      step i l (no q) h = sh.steps i (omega arith) (sym (y-at i (omega arith)) ∙ h ∙ y-at (i + 1) (omega arith))
-
-      lev : (f : ℕ → ℕ) → Level f old → ((c : ℕ) → get_or old.xs old.n 0 ≤ c → c < e → f c ≡ y) → (i c : ℕ) → i < old.n + 1 → Dec (i ≡ old.n)
-          → get_or (set old.xs (old.n + 1) e) i 0 ≤ c → c < get_or (set old.xs (old.n + 1) e) (i + 1) 0 → f c ≡ get_or (set old.ys old.n y) i 0
-      lev f lv new i c l (yes q) a b =
-          let p = x-at i (omega arith) in
-          let z = x-same i q in
-          let v = ap (λ (j : ℕ). get_or old.xs j 0) q in
-          new c (omega arith) (omega arith) ∙ sym (y-same i q)
-      lev f lv new i c l (no q) a b =
-          let p = x-at i (omega arith) in
-          let z = x-at (i + 1) (omega arith) in
-          lv i c (omega arith) (omega arith) (omega arith) ∙ sym (y-at i (omega arith))
+use Rattle.skyline.specs.Skyline.{edge, Shape, Untouched, Pushed, Kept, Starts, Raised, Part, Ahead, Walked}
 
 -- the same skyline, with its edge named in another way
 edge_as : (e e' : ℕ) (k : Skyline) → e ≡ e' → Shape e k → Shape e' k

@@ -1,6 +1,6 @@
 -- The skyline as the code keeps it: n segments, of which segment i has the columns from xs i up to xs (i + 1) and the height ys i.
 -- Assumes nothing.
-use Rattle.std.specs.Prelude.{ℕ, ◌+◌, ◌≤◌, ◌<◌, max, ◌≡◌, Bool, cond, List, length, get_or, Option, Some, None}
+use Rattle.std.specs.Prelude.{ℕ, ◌+◌, ◌≤◌, ◌<◌, max, ◌≡◌, Bool, cond, List, length, get_or, Option, Some, None, ◌⊎◌}
 use Rattle.geometry.specs.Placing.{height, spot_for, inside, grown}
 use Rattle.geometry.specs.Fits.{Lifted}
 use Rattle.geometry.specs.declared.rect.Rect.{Rect}
@@ -30,6 +30,16 @@ pub record Shape (e : ℕ) (k : Skyline) : Type 0 where
 -- the columns of each segment have its height
 abbrev pub Level : (ℕ → ℕ) → Skyline → Type 0
 Level heights k = (i c : ℕ) → i < k.n → get_or k.xs i 0 ≤ c → c < get_or k.xs (i + 1) 0 → heights c ≡ get_or k.ys i 0
+
+-- a cell that lies as `size` says is too wide from column s on, or too high, for the area
+abbrev pub TooSmall : Size → Size → ℕ → Type 0
+TooSmall area size s = (area.w < s + size.w) ⊎ (area.h < size.h)
+
+-- it is not: the column where it ends, and the greatest height that it can stand on
+pub record Limits (area size : Size) (s end most : ℕ) : Type 0 where
+  pub across : end ≡ s + size.w
+  pub in_area : end ≤ area.w
+  pub down : most + size.h ≡ area.h
 
 -- nothing after the place of segment n of the old one has changed
 pub record Untouched (old new : Skyline) : Type 0 where

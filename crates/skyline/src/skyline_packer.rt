@@ -1,10 +1,10 @@
 // One page's skyline, after skyline_packer.rs of texture_packer: the search for the best spot for a cell, and the skyline with
-// the cell there.
-ghost use Rattle.std.specs.Prelude.{◌≡◌, List, ℕ, ◌+◌, ◌-◌, ◌≤◌, ◌<◌, get_or, leb};
+// the cell there. The area and whether cells may be turned stay two parameters, as the rule's definitions take them.
+ghost use Rattle.std.specs.Prelude.{◌≡◌, List, ℕ, ◌+◌, ◌-◌, ◌≤◌, ◌<◌, get_or, leb, MatchOption};
 ghost use Rattle.geometry.specs.Words.{any};
 ghost use Rattle.geometry.specs.Placing.{rank, top, lying, cell_at, spot_at, inside, orientations, fitting_at, best_of, spot_for, is_found};
 ghost use Rattle.geometry.specs.Fits.{HasPixels};
-ghost use Rattle.skyline.specs.Skyline.{fitted, Shape, Level, Holds, Room, Put};
+ghost use Rattle.skyline.specs.Skyline.{fitted, Shape, Level, TooSmall, Limits, Holds, Room, Put};
 ghost use Rattle.geometry.specs.declared.rect.Rect.{Rect};
 
 use crate::skyline::Skyline;
@@ -31,6 +31,20 @@ impl Skyline {
         true
     }
 
+    // Where a cell that lies as `size` says would end at the start of segment i, and the greatest height that it can stand on there:
+    // nothing if the area is too small for it.
+    fn limits_at(&self, i: usize, area: Size, size: Size) -> Option<(u32, u32)>
+        requires shape { Shape area.w self.now }
+        requires i_lt_n { i < self.now.n }
+        ensures { MatchOption result (TooSmall area size (get_or self.now.xs i 0)) (λ l. Limits area size (get_or self.now.xs i 0) l.0 l.1) }
+    {
+        let s = self.xs[i];
+        if area.w - s < size.w {
+            return None;
+        }
+        Some((s + size.w, area.h.checked_sub(size.h)?))
+    }
+
     // Whether a cell that lies as `size` says fits at the start of segment i.
     fn fits_at(&self, i: usize, area: Size, size: Size) -> bool
         requires shape { Shape area.w self.now }
@@ -38,14 +52,10 @@ impl Skyline {
         ensures { (f : ℕ → ℕ) → Level f self.now →
             result ≡ inside area (cell_at f size (get_or self.now.xs i 0)) }
     {
-        let s = self.xs[i];
-        if area.w - s < size.w {
-            return false;
+        match self.limits_at(i, area, size) {
+            None => false,
+            Some((end, most)) => self.stays_under(i, end, most),
         }
-        if area.h < size.h {
-            return false;
-        }
-        self.stays_under(i, s + size.w, area.h - size.h)
     }
 
     // Whether a cell fits at the start of segment i in an allowed orientation. Most starts end here.
@@ -85,17 +95,12 @@ impl Skyline {
         ensures { (f : ℕ → ℕ) → Level f self.now →
             result ≡ fitted area (spot_at f area.w turn size (get_or self.now.xs i 0)) }
     {
+        let (end, most) = self.limits_at(i, area, size)?;
+        let y = self.top_of(i, end);
+        if most < y {
+            return None;
+        }
         let s = self.xs[i];
-        if area.w - s < size.w {
-            return None;
-        }
-        if area.h < size.h {
-            return None;
-        }
-        let y = self.top_of(i, s + size.w);
-        if area.h - size.h < y {
-            return None;
-        }
         let at = Rect {
             x: s,
             y,

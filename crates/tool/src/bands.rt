@@ -5,8 +5,7 @@ ghost use Rattle.tool.specs.declared.bands.Rows.{Rows};
 
 use crate::telling::Refused;
 use crate::{files, system};
-use compose::checking::Checked;
-use compose::image_exporter::Composed;
+use art::memory_rgba8_texture::Stores;
 use compose::{checking, image_exporter};
 use geometry::rect::Size;
 use paint::background::Background;
@@ -52,12 +51,17 @@ impl Display for Fault {
     }
 }
 
+impl From<Refusal> for Fault {
+    fn from(refusal: Refusal) -> Fault {
+        Fault::Refused(refusal)
+    }
+}
+
 // What the pages of a job are composed from.
 #[derive(Clone, Copy)]
 pub struct Pages<'a> {
     pub layout: &'a Layout,
-    pub symbols: &'a [u8],
-    pub wording: &'a [u8],
+    pub stores: Stores<'a>,
     pub background: Background,
 }
 
@@ -92,36 +96,31 @@ fn rows_at_once(room: usize, row: usize, left: u32) -> u32
 impl Sheet<'_> {
     fn compose(&self, rows: Rows, band: &mut [u8]) -> Result<(), Fault> {
         let pages = self.pages;
-        match image_exporter::compose_rows(
+        image_exporter::compose_rows(
             *pages.layout,
-            pages.symbols,
-            pages.wording,
+            pages.stores,
             self.page,
             pages.background,
             rows.first,
             rows.count,
             band,
-        ) {
-            Composed::Refused(r) => Err(Fault::Refused(r)),
-            Composed::Done => Ok(()),
-        }
+        )?;
+        Ok(())
     }
 
     fn check(&self, rows: Rows, shown: &[u8]) -> Result<(), Fault> {
         let pages = self.pages;
         match checking::check_rows(
             *pages.layout,
-            pages.symbols,
-            pages.wording,
+            pages.stores,
             self.page,
             pages.background,
             rows.first,
             rows.count,
             shown,
-        ) {
-            Checked::Same => Ok(()),
-            Checked::Differs(x, y) => Err(Fault::Differs(x, y)),
-            Checked::Refused(r) => Err(Fault::Refused(r)),
+        )? {
+            Some((x, y)) => Err(Fault::Differs(x, y)),
+            None => Ok(()),
         }
     }
 

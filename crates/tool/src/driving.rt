@@ -3,6 +3,7 @@ use crate::bands::Pages;
 use crate::page_folder::PageFolder;
 use crate::preparing::Names;
 use crate::{page_folder, placing, preparing, system, telling};
+use art::memory_rgba8_texture::Stores;
 use records::layout::Layout;
 use std::alloc::AllocError;
 use std::rt::{Env, Files};
@@ -62,18 +63,21 @@ fn do_job(
     names: Names<'_>,
 ) -> Result<Layout, Failed> {
     let ready = preparing::prepare(rt, names).ok_or(Failed::Said)?;
-    let laid = laying::lay_out(&ready.symbols, &ready.wording, ready.job);
+    let stores = Stores {
+        symbols: &ready.symbols,
+        wording: &ready.wording,
+    };
+    let laid = laying::lay_out(stores, ready.job);
     if let Program::Pack = program {
         placing::say_places(rt, &laid.layout);
     }
-    if !laying::goes_on(laid.stop) {
-        placing::say_stop(rt, names.job, &ready.job, laid.stop);
+    if let Err(stop) = laid.answer {
+        placing::say_stop(rt, names.job, &ready.job, stop);
         return Err(Failed::Said);
     }
     let pages = Pages {
         layout: &laid.layout,
-        symbols: &ready.symbols,
-        wording: &ready.wording,
+        stores,
         background: ready.job.background,
     };
     do_pages(rt, program, names.folder, pages)?;

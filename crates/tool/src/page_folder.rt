@@ -4,10 +4,9 @@ ghost use Rattle.std.specs.Prelude.{◌≤◌};
 use crate::bands::{Pages, Sheet};
 use crate::files::page_path;
 use crate::{page_files, telling};
-use geometry::rect::Size;
 use records::frame::Page;
 use records::layout as layouts;
-use records::layout::{Layout, Sized};
+use records::layout::Layout;
 use std::alloc::AllocError;
 use std::fs;
 use std::rt::Files;
@@ -16,14 +15,6 @@ use std::rt::Files;
 const OWN: &str = ".rgba";
 
 const FRESH: &str = ".rgba.new";
-
-// Where a page is one of the layout's.
-fn size_of_page(l: &Layout, page: Page) -> Option<Size> {
-    match layouts::page_size(*l, page) {
-        Sized::Is(size) => Some(size),
-        Sized::Refused(_) => None,
-    }
-}
 
 // The files of a job's pages.
 #[derive(Clone, Copy)]
@@ -44,7 +35,8 @@ impl PageFolder<'_> {
         for n in 0..8 {
             let page = Page(n);
             let pages = self.pages;
-            let sheet = size_of_page(pages.layout, page).map(|size| Sheet { pages, page, size });
+            let size = layouts::page_size(*pages.layout, page);
+            let sheet = size.ok().map(|size| Sheet { pages, page, size });
             let went = step(page, sheet)?;
             good &= went;
         }
@@ -159,6 +151,6 @@ pub fn count_pages(l: &Layout) -> usize
     ensures { result ≤ 8 }
 {
     (0..8)
-        .filter(|n| size_of_page(l, Page(*n)).is_some())
+        .filter(|n| layouts::page_size(*l, Page(*n)).is_ok())
         .count()
 }

@@ -41,17 +41,11 @@ fn line_of(j: &Job, k: usize) -> usize {
     j.entries.get(k).map_or(0, |entry| entry.line)
 }
 
-// What was refused, where anything was.
+// What was refused.
 pub fn say_stop(rt: &impl Print, name: &[u8], j: &Job, s: Stop) {
-    match s {
-        Stop::Nowhere => {}
-        Stop::AtOpen(refusal) => {
-            let operation = "open";
-            telling::say_line(rt, name, j.opened, Refused { operation, refusal });
-        }
-        Stop::AtOffer(k, refusal) => {
-            let operation = "offer";
-            telling::say_line(rt, name, line_of(j, k), Refused { operation, refusal });
-        }
-    }
+    let (line, operation, refusal) = match s {
+        Stop::AtOpen(refusal) => (j.opened, "open", refusal),
+        Stop::AtOffer(k, refusal) => (line_of(j, k), "offer", refusal),
+    };
+    telling::say_line(rt, name, line, Refused { operation, refusal });
 }

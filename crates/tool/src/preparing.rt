@@ -1,8 +1,7 @@
 // The job and its art, read from their files; what is wrong with them is said.
 use crate::{files, telling};
-use job::lines::Trouble;
 use job::reading;
-use job::reading::{Job, Outcome};
+use job::reading::{Job, Malformed};
 use std::rt::Files;
 
 // The names that the arguments give a job, as they are: bytes, which need not be text.
@@ -37,30 +36,11 @@ fn load(rt: &(impl Files + Print + AllocGlobal), path: &[u8], limit: usize) -> O
     }
 }
 
-fn trouble_text(t: Trouble) -> &'static str {
-    match t {
-        Trouble::UnknownWord => "a line begins with config, background or image",
-        Trouble::BadConfig => {
-            "a config line has 7 numbers (maxw maxh padding border extrusion pages images) and 4 switches, on or off (rotation trim outlines forced)"
-        }
-        Trouble::BadBackground => {
-            "a background line has none; or r g b a to 255, a threshold to 255 or none, and discard on or off"
-        }
-        Trouble::BadImage => "an image line has key, symbols or wording, offset, width, height",
-        Trouble::NoConfig => "the first line with words has to be a config line",
-        Trouble::SecondConfig => "there is a config line already",
-        Trouble::LateBackground => "a background line comes once, before the images",
-        Trouble::TooManyImages => "a job has at most 256 images",
-    }
-}
-
 // pump.job: line 7: malformed: ..
 fn parse(rt: &impl Print, path: &[u8], text: &[u8]) -> Option<Job> {
-    let parsed = reading::read_job(text);
-    match parsed.outcome {
-        Outcome::Done => Some(parsed.job),
-        Outcome::Refused(trouble, line) => {
-            let trouble = trouble_text(trouble);
+    match reading::read_job(text) {
+        Ok(job) => Some(job),
+        Err(Malformed { trouble, line }) => {
             telling::say_line(rt, path, line, format_args!("malformed: {trouble}"));
             None
         }

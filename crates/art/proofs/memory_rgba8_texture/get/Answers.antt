@@ -21,14 +21,6 @@ ends : (c : After-of-bytes) →
 ends c =
     rw (bytes c) (pixel_in_lem _ c.args.image c.args.x c.args.y c.requires.0.inside c.requires.1 c.requires.2)
 
-pub overflow_mul-before : goal.overflow_mul-before
-unfolding place_of
-overflow_mul-before c = omega (arith, ends (goal.at.overflow_mul-before c).After-of-bytes)
-
-pub overflow_add-before : goal.overflow_add-before
-unfolding place_of
-overflow_add-before c = omega (arith, ends (goal.at.overflow_add-before c).After-of-bytes)
-
 pub overflow_mul-before-2 : goal.overflow_mul-before-2
 unfolding place_of
 overflow_mul-before-2 c = omega (arith, ends (goal.at.overflow_mul-before-2 c).After-of-bytes)

@@ -1,9 +1,8 @@
-use borrow.Author.Rules.{rules}
 use mathlib.Core.Path.{◌≡◌, sym, ap}
 use native.Mathlib.Omega.{arith}
 use lib.ListN.{length}
 use Rattle.art.specs.Stores.{lent, bytes_of}
-use Rattle.art.proofs.Places.{bytes_now, area-fits, past_offset, past_area}
+use Rattle.art.proofs.Places.{bytes_now, past_offset, past_area}
 use Rattle.art.proofs.memory_rgba8_texture.runs_past.Goals.{After-of-size}
 use Rattle.art.proofs.memory_rgba8_texture.runs_past.Goals as goal
 
@@ -15,9 +14,6 @@ size_is c = ap length (bytes_now _ _ _ c.of-size.ensures)
 
 pub returns-then-size-offset : goal.returns-then-size-offset
 returns-then-size-offset c = sym (past_offset _ _ _ (size_is (goal.at.returns-then-size-offset c).After-of-size) c.if-size-offset.true)
-
-pub overflow_mul-area : goal.overflow_mul-area
-overflow_mul-area c = record { fits = area-fits _ _ (search rules) (search rules) }
 
 pub returns : goal.returns
 returns c = past_area _ _ _ (size_is (goal.at.returns c).After-of-size) (omega arith)

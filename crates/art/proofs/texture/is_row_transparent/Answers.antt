@@ -24,9 +24,6 @@ ends : (c : After-of-bytes) →
 ends c =
     rw (bytes c) (row_ends _ c.args.image c.requires.0.inside c.args.row c.requires.1)
 
-pub overflow_mul-alpha : goal.overflow_mul-alpha
-overflow_mul-alpha c = omega (arith, ends (goal.at.overflow_mul-alpha c).After-of-bytes)
-
 pub overflow_mul-alpha-2 : goal.overflow_mul-alpha-2
 overflow_mul-alpha-2 c = omega (arith, ends (goal.at.overflow_mul-alpha-2 c).After-of-bytes)
 

@@ -1,16 +1,11 @@
 use Rattle.std.proofs.Common.{rules}
 use Prim.Native.Nat.{◌+◌, max}
 use native.Mathlib.Omega.{arith}
-use mathlib.Core.Path.{◌≡◌, sym, ap, ◌∙◌}
-use mathlib.Core.List.{List}
+use mathlib.Core.Path.{◌≡◌, sym, ◌∙◌}
 use lib.Dec.{eqb}
-use Rattle.geometry.specs.declared.rect.Size.{Size}
-use Rattle.records.specs.declared.frame.Record.{Record}
 use lib.ListN.{get_or}
-use lib.Seq.{take_all}
 use Rattle.records.specs.Ends.{end_at, grows}
 use Rattle.records.specs.Settings.{blank_record}
-use Rattle.records.specs.Layouts.{on_page, ends_of}
 use Rattle.records.proofs.Checks.{Good, framed, formed, stands-good}
 use Rattle.records.proofs.Pages.{Ends, ends-few, ends-none_w, ends-none_h, ends_more_w, ends_more_h, grows-not, grows_by}
 use Rattle.records.proofs.Standing.{take_next}
@@ -65,11 +60,3 @@ loop-r-preserved c =
     ] in
     let more = take_next c.standing-standing.result.now blank_record c.loop-r.r-index c.loop-r-test.true in
     (ends_more_w b p _ _ r more c.loop-r.invariant.0 w, ends_more_h b p _ _ r more c.loop-r.invariant.1 h)
-
-pub returns : goal.returns
-returns c =
-    let rest = take_all c.loop-r.r-index c.standing-standing.result.now c.loop-r-test.false ∙ c.standing-standing.ensures in
-    let ends : List Record → Size = λ rs. ends_of c.args.l.config.border (on_page c.args.page.0 rs) in
-    let w = c.loop-r.invariant.0 ∙ ap (λ rs. (ends rs).w) rest in
-    let h = c.loop-r.invariant.1 ∙ ap (λ rs. (ends rs).h) rest in
-    λ i. record { w = w i; h = h i }

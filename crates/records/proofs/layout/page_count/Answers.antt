@@ -1,11 +1,9 @@
 use Rattle.std.proofs.Common.{rules}
 use Prim.Native.Nat.{◌+◌, max}
 use native.Mathlib.Omega.{arith}
-use mathlib.Core.Path.{◌≡◌, sym, ap, ◌∙◌}
+use mathlib.Core.Path.{◌≡◌, sym}
 use lib.ListN.{get_or}
-use lib.Seq.{take_all}
 use Rattle.records.specs.Settings.{blank_record}
-use Rattle.records.specs.Layouts.{page_count}
 use Rattle.records.proofs.Checks.{formed, stands-good}
 use Rattle.records.proofs.Pages.{count_none, count_more}
 use Rattle.records.proofs.Standing.{take_next}
@@ -26,6 +24,3 @@ loop-r-preserved c =
     let r = get_or c.standing-standing.result.now c.loop-r.r-index blank_record in
     let e : c.max-pages.result ≡ max c.loop-r.pages (r.page.0 + 1) = search rules in
     count_more _ _ r (take_next _ _ _ c.loop-r-test.true) c.loop-r.invariant e
-
-pub returns : goal.returns
-returns c = c.loop-r.invariant ∙ ap page_count (take_all _ _ c.loop-r-test.false ∙ c.standing-standing.ensures)

@@ -21,9 +21,6 @@ split_at-requires c =
     let n : length c.args.l.records ≡ 256 = search rules in
     omega (arith, b.images_few)
 
-pub records_ok-requires : goal.records_ok-requires
-records_ok-requires c = sym c.in_bounds.ensures ∙ c.if-not-in_bounds.false
-
 pub returns-then-all_blank : goal.returns-then-all_blank
 unfolding standing unused
 returns-then-all_blank c =
