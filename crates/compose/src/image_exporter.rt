@@ -14,6 +14,7 @@ use records::layout;
 use records::layout::Layout;
 use records::refusal::Refusal;
 
+#[tactic(auto, unfolding(crate::specs::Composing::empty_page))]
 fn empty_page(s: Size) -> bool
     ensures { result ≡ empty_page s }
 {
@@ -21,6 +22,7 @@ fn empty_page(s: Size) -> bool
 }
 
 // The sum may pass 32 bits.
+#[tactic(auto, unfolding(crate::specs::Composing::bad_rows))]
 fn bad_rows(s: Size, first: u32, rows: u32) -> bool
     ensures { result ≡ bad_rows s first rows }
 {
@@ -28,6 +30,7 @@ fn bad_rows(s: Size, first: u32, rows: u32) -> bool
     (rows == 0) | ((s.h as u64) < past)
 }
 
+#[tactic(auto, unfolding(crate::specs::Composing::bad_length))]
 fn bad_length(s: Size, rows: u32, len: usize) -> bool
     requires { (s.w ≤ 6271) × (rows ≤ 6271) }
     ensures { result ≡ bad_length s rows len }

@@ -34,6 +34,7 @@ pub fn zone_of(c: Config, r: Record) -> Rect
     }
 }
 
+#[tactic(auto, unfolding(crate::specs::Zones::reaches))]
 fn reaches_pixel(c: Config, page: Page, r: Record, x: u32, y: u32) -> bool
     requires { (in_bounds c ≡ true) × (record_well_formed c r ≡ true) }
     ensures { result ≡ reaches c page x y r }
@@ -42,6 +43,7 @@ fn reaches_pixel(c: Config, page: Page, r: Record, x: u32, y: u32) -> bool
     (r.page == page) & z.contains_point(x, y)
 }
 
+#[tactic(auto, unfolding(crate::specs::Zones::local))]
 fn local_of(x: u32, corner: u32, side: u32) -> u32
     requires { 1 ≤ side }
     ensures { result ≡ local x corner side }
@@ -63,6 +65,7 @@ fn box_pixel(stores: Stores<'_>, r: Record, x: u32, y: u32) -> Pixel
     }
 }
 
+#[tactic(auto, unfolding(crate::specs::Zones::red))]
 fn outline() -> Pixel
     ensures { result ≡ red }
 {

@@ -15,6 +15,7 @@ pub struct Colour {
 
 pub type Background = Option<Colour>;
 
+#[tactic(auto, unfolding(crate::specs::Backgrounds::clear_pixel, crate::specs::Backgrounds::composed))]
 pub fn without_pixel(g: Background) -> Pixel
     ensures { result ≡ composed g none }
 {
@@ -29,6 +30,7 @@ pub fn without_pixel(g: Background) -> Pixel
     }
 }
 
+#[tactic(auto, unfolding(crate::specs::Backgrounds::solid))]
 fn solid_if(discard: bool, k: Pixel) -> Pixel
     ensures { result ≡ solid discard k }
 {
@@ -43,6 +45,7 @@ fn solid_if(discard: bool, k: Pixel) -> Pixel
     k
 }
 
+#[tactic(auto, unfolding(crate::specs::Backgrounds::composed))]
 fn over_colour(colour: Colour, k: Pixel) -> Pixel
     ensures { result ≡ composed (Some colour) (some k) }
 {
@@ -57,6 +60,7 @@ fn over_colour(colour: Colour, k: Pixel) -> Pixel
     }
 }
 
+#[tactic(auto, unfolding(crate::specs::Backgrounds::composed))]
 pub fn with_pixel(g: Background, k: Pixel) -> Pixel
     ensures { result ≡ composed g (some k) }
 {

@@ -19,6 +19,7 @@ use records::layout::Layout;
 use records::texture_packer_config::Config;
 
 // Pixel number i.
+#[tactic(auto, unfolding(crate::specs::Painting::with_pixel))]
 fn put_pixel(bytes: &mut [u8], i: usize, k: Pixel)
     requires { 4 * i + 4 ≤ length bytes.old }
     ensures { bytes.new ≡ with_pixel bytes.old i k }

@@ -1,7 +1,0 @@
-use mathlib.Core.Path.{refl}
-use Rattle.compose.specs.Composing.{bad_rows}
-use Rattle.compose.proofs.image_exporter.bad_rows.Goals as goal
-
-pub returns : goal.returns
-unfolding bad_rows
-returns c = refl
