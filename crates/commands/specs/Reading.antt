@@ -1,6 +1,6 @@
 -- What a command's words say, in the order in which docs/SCRIPT.md lists them.
 -- Assumes nothing.
-use Rattle.std.specs.Prelude.{ℕ, ◌+◌, ◌*◌, cond, List, ltb, eqb}
+use Rattle.std.specs.Prelude.{ℕ, ◌+◌, ◌*◌, cond, List, ltb, eqb, Option, Some, None}
 use Rattle.std.specs.Float.{binary32}
 use Rattle.std.specs.Float.Ieee.{of_bits}
 use Rattle.geometry.specs.declared.rect.Size.{Size}
@@ -12,10 +12,7 @@ use Rattle.records.specs.declared.frame.Page.{Page}
 use Rattle.records.specs.declared.texture_packer_config.Config.{Config}
 use Rattle.coords.specs.declared.locate.Request.{Request}
 use Rattle.coords.specs.declared.locate.Request.TheVariants.{Pixels, Edges, Inset}
-use Rattle.paint.specs.declared.background.Background.{Background}
-use Rattle.paint.specs.declared.background.Background.TheVariants.{Clear, Colour}
-use Rattle.paint.specs.declared.background.Threshold.{Threshold}
-use Rattle.paint.specs.declared.background.Threshold.TheVariants.{Unset, AtMost}
+use Rattle.paint.specs.Backgrounds.{Background}
 use Rattle.wire.specs.Bytes.{word_at, word_bytes}
 use Rattle.wire.specs.Fields.{is_on, store_of}
 
@@ -71,12 +68,16 @@ unfoldable pub colour_of : ℕ → Pixel
 colour_of n = pixel_from (word_bytes n) 0
 
 -- unset above 255
-unfoldable pub threshold_of : ℕ → Threshold
-threshold_of n = cond (ltb n 256) (AtMost n) Unset
+unfoldable pub threshold_of : ℕ → Option ℕ
+threshold_of n = cond (ltb n 256) (Some n) None
 
 -- four words: 0 for none, or anything else for a colour; the colour; the threshold; the discard switch
 unfoldable pub background_at : List ℕ → ℕ → Background
 background_at script at =
     cond (eqb (word script at 0) 0)
-    Clear
-    (Colour (colour_of (word script at 1)) (threshold_of (word script at 2)) (is_on (word script at 3)))
+    None
+    (Some (record {
+      pixel = colour_of (word script at 1);
+      threshold = threshold_of (word script at 2);
+      discard = is_on (word script at 3);
+    }))

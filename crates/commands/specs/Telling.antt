@@ -3,13 +3,14 @@
 use Rattle.std.specs.Prelude.{ℕ, List, ◌≡◌}
 use Rattle.art.specs.Stores.{Stores}
 use Rattle.records.specs.Operations.{opened, opened_numbers, page_sized, sized_numbers}
+use Rattle.records.specs.declared.layout.Answered.{Answered}
 use Rattle.records.specs.declared.layout.Layout.{Layout}
 use Rattle.rules.specs.Operations.{asked, asked_numbers, offered, offered_numbers, withdrawn, withdrawn_numbers}
 use Rattle.coords.specs.Coordinates.{located, located_numbers}
 use Rattle.lookup.specs.Looking.{looked, looked_numbers}
 use Rattle.wire.specs.Saying.{Says}
+use Rattle.wire.specs.declared.answers.Answer.{Answer}
 use Rattle.commands.specs.Reading.{word, config_at, page_at, size_at, key_at, image_at, request_of}
-use Rattle.commands.specs.declared.Outcome.{Outcome}
 
 pub record Told : Type 0 where
   pub numbers : List ℕ
@@ -58,6 +59,6 @@ locate_told script at l =
     }
 
 -- the code's answer and layout are these
-pub record Tells (t : Told) (o : Outcome) : Type 0 where
+pub record Tells (t : Told) (o : Answered Answer) : Type 0 where
   pub says : Says t.numbers o.answer
   pub layout : o.layout ≡ t.layout

@@ -9,28 +9,21 @@ ghost use Rattle.art.specs.Stores.{lent};
 ghost use Rattle.commands.specs.Reading.{config_at, request_of, colour_of, threshold_of, background_at};
 ghost use Rattle.commands.specs.Telling.{open_told, ask_told, offer_told, withdraw_told, size_told, pixel_told, locate_told, Tells};
 
-use art::memory_rgba8_texture::{Image, Pixel};
+use art::memory_rgba8_texture::{Image, Pixel, Stores};
 use coords::locate;
 use coords::locate::Request;
 use geometry::rect::Size;
 use layout::multi_texture_packer;
 use lookup::texture_packer;
-use paint::background::{Background, Threshold};
+use paint::background::{Background, Colour};
 use records::frame::{Key, Page};
 use records::layout as layouts;
-use records::layout::Layout;
+use records::layout::{Answered, Layout};
 use records::texture_packer_config::Config;
 use wire::answers::Answer;
 use wire::{answers, fields, words};
 
 pub mod command;
-
-// An answer, and the layout that goes along.
-#[derive(Clone, Copy)]
-pub struct Outcome {
-    pub answer: Answer,
-    pub layout: Layout,
-}
 
 fn config_at(script: &[u8], at: usize) -> Config
     requires { at + 48 ≤ length script.now }
@@ -55,18 +48,18 @@ fn config_at(script: &[u8], at: usize) -> Config
     }
 }
 
-pub fn open(script: &[u8], at: usize) -> Outcome
+pub fn open(script: &[u8], at: usize) -> Answered<Answer>
     requires { at + 48 ≤ length script.now }
     ensures { Tells (open_told script.now at) result }
 {
     let o = layouts::open(config_at(script, at));
-    Outcome {
+    Answered {
         answer: answers::opened(o.answer),
         layout: o.layout,
     }
 }
 
-pub fn ask(script: &[u8], at: usize, l: Layout) -> Outcome
+pub fn ask(script: &[u8], at: usize, l: Layout) -> Answered<Answer>
     requires { at + 16 ≤ length script.now }
     ensures { Tells (ask_told script.now at l) result }
 {
@@ -74,18 +67,12 @@ pub fn ask(script: &[u8], at: usize, l: Layout) -> Outcome
     let w = words::word_at(script, at + 8);
     let h = words::word_at(script, at + 12);
     let answer = answers::asked(multi_texture_packer::ask(l, page, Size { w, h }));
-    Outcome { answer, layout: l }
+    Answered { answer, layout: l }
 }
 
-pub fn offer<'a>(
-    script: &'a [u8],
-    symbols: &'a [u8],
-    wording: &'a [u8],
-    at: usize,
-    l: Layout,
-) -> Outcome
+pub fn offer(script: &[u8], stores: Stores<'_>, at: usize, l: Layout) -> Answered<Answer>
     requires { at + 24 ≤ length script.now }
-    ensures { Tells (offer_told script.now at (lent symbols.now wording.now) l) result }
+    ensures { Tells (offer_told script.now at (lent stores.entry) l) result }
 {
     let key = Key(words::word_at(script, at + 4));
     let store = fields::store_of(words::word_at(script, at + 8));
@@ -98,47 +85,41 @@ pub fn offer<'a>(
         w,
         h,
     };
-    let o = multi_texture_packer::offer(l, symbols, wording, key, image);
-    Outcome {
+    let o = multi_texture_packer::offer(l, stores, key, image);
+    Answered {
         answer: answers::offered(o.answer),
         layout: o.layout,
     }
 }
 
-pub fn withdraw(l: Layout) -> Outcome
+pub fn withdraw(l: Layout) -> Answered<Answer>
     ensures { Tells (withdraw_told l) result }
 {
     let gone = multi_texture_packer::withdraw(l);
-    Outcome {
+    Answered {
         answer: answers::withdrawn(gone.answer),
         layout: gone.layout,
     }
 }
 
-pub fn page_size(script: &[u8], at: usize, l: Layout) -> Outcome
+pub fn page_size(script: &[u8], at: usize, l: Layout) -> Answered<Answer>
     requires { at + 8 ≤ length script.now }
     ensures { Tells (size_told script.now at l) result }
 {
     let page = Page(words::word_at(script, at + 4));
     let answer = answers::sized(layouts::page_size(l, page));
-    Outcome { answer, layout: l }
+    Answered { answer, layout: l }
 }
 
-pub fn pixel<'a>(
-    script: &'a [u8],
-    symbols: &'a [u8],
-    wording: &'a [u8],
-    at: usize,
-    l: Layout,
-) -> Outcome
+pub fn pixel(script: &[u8], stores: Stores<'_>, at: usize, l: Layout) -> Answered<Answer>
     requires { at + 16 ≤ length script.now }
-    ensures { Tells (pixel_told script.now at (lent symbols.now wording.now) l) result }
+    ensures { Tells (pixel_told script.now at (lent stores.entry) l) result }
 {
     let page = Page(words::word_at(script, at + 4));
     let x = words::word_at(script, at + 8);
     let y = words::word_at(script, at + 12);
-    let answer = answers::looked(texture_packer::pixel(l, symbols, wording, page, x, y));
-    Outcome { answer, layout: l }
+    let answer = answers::looked(texture_packer::pixel(l, stores, page, x, y));
+    Answered { answer, layout: l }
 }
 
 // The language makes no NaN of a pattern; every pattern of a NaN stands for the one that 0 / 0 gives.
@@ -163,7 +144,7 @@ fn request_of(request: u32, bits: u32) -> Request
     }
 }
 
-pub fn coordinates(script: &[u8], at: usize, l: Layout) -> Outcome
+pub fn coordinates(script: &[u8], at: usize, l: Layout) -> Answered<Answer>
     requires { at + 16 ≤ length script.now }
     ensures { Tells (locate_told script.now at l) result }
 {
@@ -171,16 +152,13 @@ pub fn coordinates(script: &[u8], at: usize, l: Layout) -> Outcome
     let request = words::word_at(script, at + 8);
     let bits = words::word_at(script, at + 12);
     let answer = answers::located(locate::coordinates(l, key, request_of(request, bits)));
-    Outcome { answer, layout: l }
+    Answered { answer, layout: l }
 }
 
-fn threshold_of(n: u32) -> Threshold
+fn threshold_of(n: u32) -> Option<u8>
     ensures { result ≡ threshold_of n }
 {
-    match u8::try_from(n) {
-        Ok(alpha) => Threshold::AtMost(alpha),
-        Err(_) => Threshold::Unset,
-    }
+    u8::try_from(n).ok()
 }
 
 // The bytes of a word, the least first, are R G B A.
@@ -197,10 +175,11 @@ pub fn background_at(script: &[u8], at: usize) -> Background
     ensures { result ≡ background_at script.now at }
 {
     if words::word_at(script, at) == 0 {
-        return Background::Clear;
+        return None;
     }
-    let colour = colour_of(words::word_at(script, at + 4));
-    let threshold = threshold_of(words::word_at(script, at + 8));
-    let discard = fields::is_on(words::word_at(script, at + 12));
-    Background::Colour(colour, threshold, discard)
+    Some(Colour {
+        pixel: colour_of(words::word_at(script, at + 4)),
+        threshold: threshold_of(words::word_at(script, at + 8)),
+        discard: fields::is_on(words::word_at(script, at + 12)),
+    })
 }

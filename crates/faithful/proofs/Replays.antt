@@ -180,7 +180,7 @@ module _ (c : Config) (rs : List Record) (r : Record) (g : Good c r) where
   unfolding placed art_of
   replay_elsewhere p pages sky e n = record {
     same = same_elsewhere c r (page_for c rs (whole_of r)) (spot_on c (cells_on c rs (page_for c rs (whole_of r))) (size_of (box_of r))) (λ q. n (q ∙ sym e));
-    after = λ q. let z : ◌≡◌ {A = ℕ} 0 1 = cc in absurd (omega arith);
+    after = λ q. absurd (cc);
   }
 
   grown-here : (k : Spot) → spot_on c (cells_on c rs r.page.0) (size_of (box_of r)) ≡ Some k → same_spot r (record_for c (art_of r) r.page.0 (Some k)) ≡ true
@@ -194,7 +194,7 @@ module _ (c : Config) (rs : List Record) (r : Record) (g : Good c r) where
 
   after-all : (f : Option Spot) → f ≡ spot_on c (cells_on c rs r.page.0) (size_of (box_of r)) → same_spot r (record_for c (art_of r) r.page.0 f) ≡ true
       → cells_on c (rs ++ r ∷ []) r.page.0 ≡ grown (cells_on c rs r.page.0) f
-  after-all None e s = let n = same_none c r r.page.0 in let z : ◌≡◌ {A = ℕ} 0 1 = cc in absurd (omega arith)
+  after-all None e s = let n = same_none c r r.page.0 in absurd (cc)
   after-all (Some k) e s = grown-here k (sym e) s
 
   pub replay_here : (p : ℕ) (f : Option Spot) (so : Bool) (sky : Pages) → p ≡ page_for c rs (whole_of r) → r.page.0 ≡ p

@@ -64,8 +64,7 @@ pub fn replay(l: Layout, skies: &mut Pages) -> Option<usize>
     let c = l.config;
     *skies = Pages::new(c.maxw);
     let mut pages = 0;
-    let standing = &l.records[..l.count];
-    for r in standing {
+    for r in l.standing() {
         if !replay_one(skies, c, pages, *r) {
             return None;
         }

@@ -40,7 +40,7 @@ fn keys_differ(l: Layout) -> bool
     requires { well_formed l ≡ true }
     ensures { result ≡ keys_differ (standing l) }
 {
-    let standing = &l.records[..l.count];
+    let standing = l.standing();
     let mut keys = [0u32; 256];
     copy_keys(standing, &mut keys);
     all_differ(&keys[..standing.len()])
@@ -58,8 +58,9 @@ fn all_whole(l: Layout) -> bool
     requires { well_formed l ≡ true }
     ensures { result ≡ all (whole_if_untrimmed l.config) (standing l) }
 {
-    let standing = &l.records[..l.count];
-    standing.iter().all(|r| whole_if_untrimmed(l.config, *r))
+    l.standing()
+        .iter()
+        .all(|r| whole_if_untrimmed(l.config, *r))
 }
 
 // The number of the layout's pages if it is faithful, and their skylines.

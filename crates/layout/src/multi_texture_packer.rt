@@ -87,7 +87,7 @@ fn latest_key(l: Layout) -> Withdrawn
 {
     let mut skies = Pages::new(ANY);
     trust::trusted(l, &mut skies)?;
-    let standing = &l.records[..l.count];
+    let standing = l.standing();
     let latest = standing.last().ok_or(Refusal::NothingStands)?;
     Ok(latest.key)
 }

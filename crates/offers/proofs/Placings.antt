@@ -85,7 +85,7 @@ module _ (c : Config) (rs : List Record) (a : Art) (p : ℕ) (sky : Pages) (e : 
       go None h q pt = absurd (never q)
         where
           never : {r : Record} → stood (record_for c a p None) ≡ Ok r → ⊥
-          never q = let t = stood-none c a p None refl in let z : ◌≡◌ {A = ℕ} 0 1 = cc in omega arith
+          never q = let t = stood-none c a p None refl in cc
       go {r} (Some k) h q pt =
           let w = after-at k r h (same k r q) in
           subst (λ (n : ℕ). Stands (canvas c).w (cells_on c (rs ++ r ∷ [])) n sky) (sym (length_snoc rs r))

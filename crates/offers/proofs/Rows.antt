@@ -1,5 +1,8 @@
 -- The row of offer past 2 and 3 as the code goes through it. Assumes nothing.
-use Rattle.std.specs.Prelude.{Result, Ok, Err, IfOk}
+use Rattle.std.specs.Prelude.{Option as Maybe, Some, None, MatchOption, Result, Ok, Err, IfOk}
+use Rattle.std.specs.Option.{is_some}
+use Rattle.records.proofs.Keys.{keyed, unkeyed}
+use denote.Bor.{Bor}
 use Prim.Native.Nat.{◌≤◌, ◌<◌}
 use mathlib.Core.Path.{◌≡◌, refl, sym, ap, ◌∙◌}
 use mathlib.Core.Bool.{Bool, true, false, cond, ◌&&◌}
@@ -17,7 +20,7 @@ use Rattle.art.specs.Trimming.{all_clear, trim_box}
 use Rattle.art.specs.declared.memory_rgba8_texture.Image.{Image}
 use Rattle.records.specs.Refusals.{Row, first_refusal}
 use Rattle.records.specs.Records.{size_of}
-use Rattle.records.specs.Layouts.{standing, has_key, page_count}
+use Rattle.records.specs.Layouts.{standing, has_key, record_of, page_count}
 use Rattle.records.specs.declared.texture_packer_config.Config.{Config}
 use Rattle.records.specs.declared.frame.Key.{Key}
 use Rattle.records.specs.declared.frame.Record.{Record}
@@ -136,6 +139,11 @@ module _ {A : Type 0} where
   refuses x row n e = ap (unless x) (sym e)
 
 -- ## offer, from 4 on
+
+-- a key stands where a record is named by it
+pub named-stands : (l : Layout) (k : Key) (o : Maybe (Bor Record)) → MatchOption o (record_of l k ≡ none) (λ r. record_of l k ≡ some r.now) → is_some o ≡ any (has_key k) (standing l)
+named-stands l k None e = sym (unkeyed l k e)
+named-stands l k (Some r) e = sym (keyed l k e).0
 
 pub art_made : (c : Config) (s : Stores) (key : Key) (i : Image) (k : Rect) → k ≡ trim_box c.trim s i
     → record { key = key; store = i.store; offset = i.offset; whole = record { w = i.w; h = i.h }; kept = k } ≡ art_for c s key i

@@ -23,8 +23,8 @@ use pages::Pages;
 use records::frame::{Key, Record};
 use records::layout::{Answered, Layout};
 use records::refusal::Refusal;
+use records::texture_packer_config;
 use records::texture_packer_config::Config;
-use records::{layout, texture_packer_config};
 use rules::multi_texture_packer::{Offering, Place};
 use rules::placing::Art;
 
@@ -78,7 +78,7 @@ fn checked_art(l: Layout, stores: Stores<'_>, key: Key, image: Image) -> Result<
     if memory_rgba8_texture::runs_past(stores, image) {
         return Err(Refusal::PastStore);
     }
-    if layout::find_key(l, key) < l.count {
+    if l.named(key).is_some() {
         return Err(Refusal::KeyStands);
     }
     let kept = kept_box(l.config.trim, stores, image).ok_or(Refusal::AllClear)?;

@@ -4,6 +4,7 @@
 
 ghost use Rattle.std.specs.Prelude.{◌≤◌, length, OnOk};
 
+use art::memory_rgba8_texture::Stores;
 use std::io::Read;
 use std::{fs, io};
 
@@ -51,12 +52,11 @@ fn next_case<F: Read>(file: &mut F, case: &mut Case) -> Result<bool, Broken> {
     read_part(file, &mut case.symbols, b)?;
     read_part(file, &mut case.wording, c)?;
     read_part(file, &mut case.expected, d)?;
-    let n = script::run(
-        &case.script[..a],
-        &case.symbols[..b],
-        &case.wording[..c],
-        &mut case.answers,
-    );
+    let stores = Stores {
+        symbols: &case.symbols[..b],
+        wording: &case.wording[..c],
+    };
+    let n = script::run(&case.script[..a], stores, &mut case.answers);
     Ok(case.answers.get(..n) == Some(&case.expected[..d]))
 }
 

@@ -4,6 +4,7 @@ use native.Mathlib.Omega.{arith}
 use mathlib.Core.List.{List}
 use mathlib.Core.Option.{Option, none, some}
 use mathlib.Core.Path.{◌≡◌, refl, sym, ap, ◌∙◌}
+use Rattle.std.specs.Prelude.{Result, Ok, Err, ⊤}
 use lib.ListN.{length, replicate, length-replicate}
 use borrow.Rule.Slice.PartMut.{put_mid, mid_of, mid_len, put_same}
 use Rattle.art.specs.Stores.{Stores}
@@ -11,29 +12,27 @@ use Rattle.records.specs.declared.frame.Page.{Page}
 use Rattle.records.specs.declared.layout.Layout.{Layout}
 use Rattle.records.specs.declared.refusal.Refusal.{Refusal}
 use Rattle.paint.specs.Pictures.{band}
-use Rattle.paint.specs.declared.background.Background.{Background}
+use Rattle.paint.specs.Backgrounds.{Background}
 use Rattle.compose.specs.Composing.{compose_answer, compose_buffer, band_refusal, composed_answer, composed_buffer, composed_numbers}
-use Rattle.compose.specs.declared.image_exporter.Composed.{Composed}
-use Rattle.compose.specs.declared.image_exporter.Composed.TheVariants.{Done, Refused}
 use Rattle.compose.proofs.Theorems.{compose_long}
 use Rattle.wire.specs.Bytes.{put}
 use Rattle.wire.proofs.Putting.{put-none, lent-put}
 use Rattle.script.specs.Doing.{composed_size}
 use Rattle.script.specs.Stepping.{composed_bytes}
 
-pub one_number : (o : Composed) → length (composed_numbers o) ≡ 1
-one_number Done = refl
-one_number (Refused r) = refl
+pub one_number : (o : Result ⊤ Refusal) → length (composed_numbers o) ≡ 1
+one_number (Ok done) = refl
+one_number (Err r) = refl
 
-pub size-at_most : (o : Composed) (n : ℕ) → composed_size o n ≤ n
-size-at_most Done n = omega arith
-size-at_most (Refused r) n = omega arith
+pub size-at_most : (o : Result ⊤ Refusal) (n : ℕ) → composed_size o n ≤ n
+size-at_most (Ok done) n = omega arith
+size-at_most (Err r) n = omega arith
 
 module _ (l : Layout) (s : Stores) (p : Page) (k : Background) (first rows size : ℕ) where
-  long_by : (o : Composed) → composed_answer l s p first rows (replicate size 0) ≡ o
+  long_by : (o : Result ⊤ Refusal) → composed_answer l s p first rows (replicate size 0) ≡ o
       → length (composed_bytes o (composed_buffer l s p k first rows (replicate size 0))) ≡ composed_size o size
-  long_by Done e = compose_long l s p k first rows (replicate size 0) e ∙ length-replicate size 0
-  long_by (Refused r) e = refl
+  long_by (Ok done) e = compose_long l s p k first rows (replicate size 0) e ∙ length-replicate size 0
+  long_by (Err r) e = refl
 
   pub composed-long : length (composed_bytes (composed_answer l s p first rows (replicate size 0)) (composed_buffer l s p k first rows (replicate size 0)))
       ≡ composed_size (composed_answer l s p first rows (replicate size 0)) size

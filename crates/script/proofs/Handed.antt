@@ -10,6 +10,7 @@ use denote.Ref.{Bor}
 use borrow.Author.Tests.{not-false}
 use Rattle.geometry.specs.Words.{any}
 use Rattle.art.specs.Stores.{Stores, of_store}
+use Rattle.art.specs.declared.memory_rgba8_texture.Stores.{Stores as LentStores}
 use Rattle.records.specs.Layouts.{standing, well_formed, has_key, record_named}
 use Rattle.records.specs.declared.frame.Key.{Key}
 use Rattle.records.specs.declared.layout.Layout.{Layout}
@@ -33,10 +34,10 @@ module _ (l : Layout) (s : Stores) (k : Key) (y : ℕ) where
   unfolding part_read
   part-short = short_by (read_refusal l s k y) refl
 
-  pub row-short : (symbols wording r : Bor (List ℕ)) → IsPart symbols wording (part_read l s k y) r → length r.now ≤ 8192
-  row-short symbols wording r p =
+  pub row-short : (stores : LentStores) (r : Bor (List ℕ)) → IsPart stores (part_read l s k y) r → length r.now ≤ 8192
+  row-short stores r p =
       let n = (part_read l s k y).size in
-      let rest : List ℕ = drop (part_read l s k y).start (of_store (part_read l s k y).store symbols wording).now in
+      let rest : List ℕ = drop (part_read l s k y).start (of_store (part_read l s k y).store stores.symbols stores.wording).now in
       let e : length r.now ≡ min n (length rest) = ap length p.bytes ∙ length-take n rest in
       let m = part-short in
       omega arith

@@ -7,10 +7,11 @@ use mathlib.Core.Path.{◌≡◌, refl, sym, ap, ◌∙◌, subst}
 use lib.Dec.{ltb}
 use lib.ListN.{length}
 use borrow.Author.Tests.{le-leb, lt-leb, lt-ltb, le-ltb}
+use Rattle.std.specs.Prelude.{Result, ⊤}
 use Rattle.art.specs.Stores.{Stores}
 use Rattle.records.specs.declared.layout.Layout.{Layout}
 use Rattle.compose.specs.Composing.{composed_numbers}
-use Rattle.compose.specs.declared.image_exporter.Composed.{Composed}
+use Rattle.records.specs.declared.refusal.Refusal.{Refusal}
 use Rattle.wire.specs.Bytes.{words_bytes, put}
 use Rattle.wire.specs.Fields.{is_field, layout_with}
 use Rattle.commands.specs.Reading.{word, page_at, background_at}
@@ -49,18 +50,18 @@ module _ (script : List ℕ) (s : Stores) (at : ℕ) (l : Layout) where
       omega arith
 
   -- the number goes in front of the bytes
-  pub compose_written : (old : List ℕ) (w : ℕ) (o : Composed) (n more : ℕ) {y z : List ℕ} → o ≡ compose_outcome script s at l → composed_numbers o ≡ n ∷ []
+  pub compose_written : (old : List ℕ) (w : ℕ) (o : Result ⊤ Refusal) (n more : ℕ) {y z : List ℕ} → o ≡ compose_outcome script s at l → composed_numbers o ≡ n ∷ []
       → more ≡ composed_size o (word script at 8) → y ≡ put old (w + 8) (composed_bytes o (compose_pixels script s at l))
       → z ≡ put y w (words_bytes ((1 + more / 4) ∷ n ∷ [])) → w + 8 + word script at 8 ≤ length old → z ≡ put old w compose_said
   compose_written old w o n more {y} {z} e is m p q h =
       let bytes = compose_pixels script s at l in
       let long : length (composed_bytes o bytes) ≡ composed_size o (word script at 8) =
-      subst (λ (r : Composed). length (composed_bytes r bytes) ≡ composed_size r (word script at 8)) (sym e) composed-bytes-long
+      subst (λ (r : Result ⊤ Refusal). length (composed_bytes r bytes) ≡ composed_size r (word script at 8)) (sym e) composed-bytes-long
       in
       let most = size-at_most o (word script at 8) in
       let same : more ≡ length (composed_bytes o bytes) = omega arith in
       front_answer old w (composed_numbers o) (composed_bytes o bytes) n (more / 4) is (ap (λ (k : ℕ). k / 4) same) (omega arith) p q
-      ∙ ap (λ (r : Composed). put old w (answer_bytes (composed_numbers r) (composed_bytes r bytes))) e
+      ∙ ap (λ (r : Result ⊤ Refusal). put old w (answer_bytes (composed_numbers r) (composed_bytes r bytes))) e
 
 -- ## check rows
 

@@ -1,8 +1,7 @@
 -- How the code's step is the step that is defined.
 -- Assumes nothing.
-use Rattle.std.specs.Prelude.{ℕ, ◌+◌, Bool, true, false, List, [], ◌≡◌, length, Result, Ok, Err}
-use Rattle.compose.specs.declared.image_exporter.Composed.{Composed}
-use Rattle.compose.specs.declared.image_exporter.Composed.TheVariants.{Done, Refused}
+use Rattle.std.specs.Prelude.{ℕ, ◌+◌, Bool, true, false, List, [], ◌≡◌, length, Result, Ok, Err, ⊤}
+use Rattle.records.specs.declared.refusal.Refusal.{Refusal}
 use Rattle.wire.specs.Bytes.{put}
 use Rattle.wire.specs.Saying.{Says}
 use Rattle.script.specs.Stepping.{Stepped, GoesOn, Stops}
@@ -34,9 +33,9 @@ pub record Does (p : Stepped) (written : ℕ) (old new : List ℕ) (r : Result S
   pub answers : new ≡ put old written (said_by p)
 
 -- how many bytes follow the number of a compose that was lent n
-abbrev pub composed_size : Composed → ℕ → ℕ
-composed_size Done n = n
-composed_size (Refused r) n = 0
+abbrev pub composed_size : Result ⊤ Refusal → ℕ → ℕ
+composed_size (Ok done) n = n
+composed_size (Err r) n = 0
 
 -- the numbers of the answer, or that a part runs past its source
 abbrev pub Checks : Bool → List ℕ → Result Answer Ended → Type 0

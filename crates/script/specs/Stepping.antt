@@ -1,13 +1,12 @@
 -- What one command of a script does, by docs/SCRIPT.md.
 -- Assumes nothing.
-use Rattle.std.specs.Prelude.{ℕ, ◌+◌, ◌*◌, ◌/◌, ◌%◌, Bool, cond, List, [], ◌∷◌, ◌++◌, leb, ltb, length, get_or, take, drop, replicate}
+use Rattle.std.specs.Prelude.{ℕ, ◌+◌, ◌*◌, ◌/◌, ◌%◌, Bool, cond, List, [], ◌∷◌, ◌++◌, leb, ltb, length, get_or, take, drop, replicate, Result, Ok, Err, ⊤}
 use Rattle.art.specs.Stores.{Stores}
 use Rattle.records.specs.declared.layout.Layout.{Layout}
 use Rattle.lookup.specs.Reading.{read, read_numbers, part_read, part_bytes}
 use Rattle.compose.specs.Checking.{checked_rows, checked_numbers}
 use Rattle.compose.specs.Composing.{composed_answer, composed_buffer, composed_numbers}
-use Rattle.compose.specs.declared.image_exporter.Composed.{Composed}
-use Rattle.compose.specs.declared.image_exporter.Composed.TheVariants.{Done, Refused}
+use Rattle.records.specs.declared.refusal.Refusal.{Refusal}
 use Rattle.wire.specs.Bytes.{words_bytes}
 use Rattle.wire.specs.Fields.{is_field, layout_with}
 use Rattle.commands.specs.Reading.{word, page_at, key_at, background_at}
@@ -41,16 +40,16 @@ unfoldable pub next_at : ℕ → ℕ → ℕ
 next_at at command = at + 4 * (1 + words_of command)
 
 -- where the number is 0, the bytes
-abbrev pub composed_bytes : Composed → List ℕ → List ℕ
-composed_bytes Done bytes = bytes
-composed_bytes (Refused r) bytes = []
+abbrev pub composed_bytes : Result ⊤ Refusal → List ℕ → List ℕ
+composed_bytes (Ok done) bytes = bytes
+composed_bytes (Err r) bytes = []
 
 -- the commands whose answer is words alone
 unfoldable pub telling : ℕ → List ℕ → ℕ → ℕ → Told → Stepped
 telling room said at command t = saying room said t.layout (next_at at command) (answer_bytes t.numbers [])
 
 -- compose rows: page, background (4 words), first, rows, length. It lends a part of `length` bytes; what they are does not count.
-unfoldable pub compose_outcome : List ℕ → Stores → ℕ → Layout → Composed
+unfoldable pub compose_outcome : List ℕ → Stores → ℕ → Layout → Result ⊤ Refusal
 compose_outcome script s at l =
     composed_answer l s (page_at script at) (word script at 6) (word script at 7) (replicate (word script at 8) 0)
 

@@ -3,7 +3,7 @@
 -- Assumes nothing.
 use Rattle.std.specs.Prelude.{ℕ, ◌-◌, List, [], ◌∷◌, ◌++◌, get_or, replicate}
 use Rattle.geometry.specs.Words.{from, flat}
-use Rattle.art.specs.Stores.{Stores, lent}
+use Rattle.art.specs.Stores.{Stores, holding}
 use Rattle.records.specs.Samples.{record_numbers, config_numbers, layout_numbers}
 use Rattle.records.specs.Settings.{blank_config, blank_record, empty_layout}
 use Rattle.records.specs.declared.layout.Layout.{Layout}
@@ -21,7 +21,7 @@ unfoldable pub pixels : List ℕ
 pixels = 10 ∷ 20 ∷ 30 ∷ 255 ∷ 40 ∷ 50 ∷ 60 ∷ 255 ∷ []
 
 unfoldable pub stores : Stores
-stores = lent pixels (1 ∷ 2 ∷ 3 ∷ 4 ∷ 5 ∷ 6 ∷ 7 ∷ 8 ∷ [])
+stores = holding pixels (1 ∷ 2 ∷ 3 ∷ 4 ∷ 5 ∷ 6 ∷ 7 ∷ 8 ∷ [])
 
 -- some words as a script, with room for n bytes
 unfoldable pub run_in : ℕ → List ℕ → List ℕ

@@ -9,74 +9,61 @@ ghost use Rattle.script.specs.Doing.{Does, composed_size};
 
 use crate::steps;
 use crate::steps::{Ended, Step};
+use art::memory_rgba8_texture::Stores;
 use compose::image_exporter;
-use compose::image_exporter::Composed;
 use lookup::image_row;
 use records::frame::{Key, Page};
 use records::layout::Layout;
+use records::refusal::Refusal;
 use wire::{answers, words};
 
 // Compose rows into the part of the answers from a to e.
 fn compose_in<'a>(
     script: &'a [u8],
-    symbols: &'a [u8],
-    wording: &'a [u8],
+    stores: Stores<'a>,
     answers: &mut [u8],
     at: usize,
     l: Layout,
     a: usize,
     e: usize,
-) -> Composed
+) -> Result<(), Refusal>
     requires { There script.now at 8 × (e ≡ a + word script.now at 8) × (e ≤ length answers.old) }
-    ensures value { result ≡ compose_outcome script.now (lent symbols.now wording.now) at l }
-    ensures answers_after { answers.new ≡ put answers.old a (composed_bytes result (compose_pixels script.now (lent symbols.now wording.now) at l)) }
+    ensures value { result ≡ compose_outcome script.now (lent stores.entry) at l }
+    ensures answers_after { answers.new ≡ put answers.old a (composed_bytes result (compose_pixels script.now (lent stores.entry) at l)) }
 {
     let page = Page(words::word_at(script, at + 4));
     let background = commands::background_at(script, at + 8);
     let first = words::word_at(script, at + 24);
     let rows = words::word_at(script, at + 28);
-    image_exporter::compose_rows(
-        l,
-        symbols,
-        wording,
-        page,
-        background,
-        first,
-        rows,
-        &mut answers[a..e],
-    )
+    image_exporter::compose_rows(l, stores, page, background, first, rows, &mut answers[a..e])
 }
 
-fn composed_size(o: Composed, n: usize) -> usize
+fn composed_size(o: Result<(), Refusal>, n: usize) -> usize
     ensures { result ≡ composed_size o n }
 {
-    match o {
-        Composed::Done => n,
-        Composed::Refused(_) => 0,
-    }
+    if o.is_ok() { n } else { 0 }
 }
 
 // The part that is lent must fit in front of the end.
 pub fn compose_step<'a>(
     script: &'a [u8],
-    symbols: &'a [u8],
-    wording: &'a [u8],
+    stores: Stores<'a>,
     answers: &mut [u8],
     at: usize,
     l: Layout,
     written: usize,
 ) -> Result<Step, Ended>
     requires { There script.now at 8 × (written + 12 ≤ length answers.old) }
-    ensures { Does (compose_step script.now (lent symbols.now wording.now) (length answers.old) (take written answers.old) at l) written answers.old answers.new result }
+    ensures { Does (compose_step script.now (lent stores.entry) (length answers.old) (take written answers.old) at l) written answers.old answers.new result }
 {
     let size = words::word_at(script, at + 32) as usize;
     if answers.len() - written - 12 < 8 + size {
         return Err(Ended::NoRoom);
     }
     let a = written + 8;
-    let o = compose_in(script, symbols, wording, answers, at, l, a, a + size);
+    let o = compose_in(script, stores, answers, at, l, a, a + size);
     let more = composed_size(o, size);
-    steps::write_number(answers, written, answers::composed(o), (more / 4) as u32);
+    steps::write_number(answers, written, answers::number(o), (more / 4) as u32);
     Ok(Step {
         layout: l,
         next: at + 36,
@@ -87,20 +74,19 @@ pub fn compose_step<'a>(
 // Row of an image: it has at most 2048 pixels.
 pub fn row_step<'a>(
     script: &'a [u8],
-    symbols: &'a [u8],
-    wording: &'a [u8],
+    stores: Stores<'a>,
     answers: &mut [u8],
     at: usize,
     l: Layout,
     written: usize,
 ) -> Result<Step, Ended>
     requires { There script.now at 2 × (written + 12 ≤ length answers.old) }
-    ensures { Does (row_step script.now (lent symbols.now wording.now) (length answers.old) (take written answers.old) at l) written answers.old answers.new result }
+    ensures { Does (row_step script.now (lent stores.entry) (length answers.old) (take written answers.old) at l) written answers.old answers.new result }
 {
     let key = Key(words::word_at(script, at + 4));
     let row = words::word_at(script, at + 8);
-    let n = answers::row_read(image_row::row_refusal(l, symbols, wording, key, row));
-    let part = image_row::row_of_image(l, symbols, wording, key, row);
+    let n = answers::number(image_row::row_refusal(l, stores, key, row));
+    let part = image_row::row_of_image(l, stores, key, row);
     let size = part.len();
     if answers.len() - written - 12 < 8 + size {
         return Err(Ended::NoRoom);

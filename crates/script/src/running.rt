@@ -10,6 +10,7 @@ ghost use Rattle.script.specs.Doing.{Does};
 
 use crate::steps::{Ended, Step};
 use crate::{bytes, checking, steps};
+use art::memory_rgba8_texture::Stores;
 use commands::command::Command;
 use records::layout::Layout;
 use records::{layout as layouts, texture_packer_config};
@@ -18,8 +19,7 @@ use wire::words;
 // The command at byte `at`, whose words are there.
 fn run_command<'a>(
     script: &'a [u8],
-    symbols: &'a [u8],
-    wording: &'a [u8],
+    stores: Stores<'a>,
     answers: &mut [u8],
     command: Command,
     at: usize,
@@ -28,24 +28,24 @@ fn run_command<'a>(
 ) -> Result<Step, Ended>
     requires command_bound { There script.now at (words_of (command_number command)) }
     requires written_in_bounds { written + 12 ≤ length answers.old }
-    ensures { Does (command_step script.now (lent symbols.now wording.now) (length answers.old) (take written answers.old) at l (command_number command)) written answers.old answers.new result }
+    ensures { Does (command_step script.now (lent stores.entry) (length answers.old) (take written answers.old) at l (command_number command)) written answers.old answers.new result }
 {
     let o = match command {
         Command::Open => commands::open(script, at),
         Command::Ask => commands::ask(script, at, l),
-        Command::Offer => commands::offer(script, symbols, wording, at, l),
+        Command::Offer => commands::offer(script, stores, at, l),
         Command::Withdraw => commands::withdraw(l),
         Command::PageSize => commands::page_size(script, at, l),
-        Command::Pixel => commands::pixel(script, symbols, wording, at, l),
+        Command::Pixel => commands::pixel(script, stores, at, l),
         Command::Coordinates => commands::coordinates(script, at, l),
         Command::ComposeRows => {
-            return bytes::compose_step(script, symbols, wording, answers, at, l, written);
+            return bytes::compose_step(script, stores, answers, at, l, written);
         }
         Command::CheckRows => {
-            return checking::check_step(script, symbols, wording, answers, at, l, written);
+            return checking::check_step(script, stores, answers, at, l, written);
         }
         Command::RowOfImage => {
-            return bytes::row_step(script, symbols, wording, answers, at, l, written);
+            return bytes::row_step(script, stores, answers, at, l, written);
         }
         Command::Set => return steps::set_step(script, at, l, written),
         Command::Data => return steps::data_step(script, at, l, written),
@@ -56,15 +56,14 @@ fn run_command<'a>(
 
 fn step<'a>(
     script: &'a [u8],
-    symbols: &'a [u8],
-    wording: &'a [u8],
+    stores: Stores<'a>,
     answers: &mut [u8],
     at: usize,
     l: Layout,
     written: usize,
 ) -> Result<Step, Ended>
     requires { (at < length script.now) × (written + 12 ≤ length answers.old) }
-    ensures { Does (stepped script.now (lent symbols.now wording.now) (length answers.old) (take written answers.old) at l) written answers.old answers.new result }
+    ensures { Does (stepped script.now (lent stores.entry) (length answers.old) (take written answers.old) at l) written answers.old answers.new result }
 {
     let left = script.len() - at;
     if left < 4 {
@@ -74,7 +73,7 @@ fn step<'a>(
     if left - 4 < 4 * command.words() {
         return Err(Ended::CutShort);
     }
-    run_command(script, symbols, wording, answers, command, at, l, written)
+    run_command(script, stores, answers, command, at, l, written)
 }
 
 // The end: a code and where it ended, modulo 2^32.
@@ -95,21 +94,16 @@ fn blank() -> Layout
     layouts::empty_layout(texture_packer_config::blank_config())
 }
 
-pub fn run_commands<'a>(
-    script: &'a [u8],
-    symbols: &'a [u8],
-    wording: &'a [u8],
-    answers: &mut [u8],
-) -> usize
+pub fn run_commands<'a>(script: &'a [u8], stores: Stores<'a>, answers: &mut [u8]) -> usize
     requires { 12 ≤ length answers.old }
-    ensures value { result ≡ length (ran script.now (lent symbols.now wording.now) (length answers.old)) }
-    ensures answers_after { answers.new ≡ put answers.old 0 (ran script.now (lent symbols.now wording.now) (length answers.old)) }
+    ensures value { result ≡ length (ran script.now (lent stores.entry) (length answers.old)) }
+    ensures answers_after { answers.new ≡ put answers.old 0 (ran script.now (lent stores.entry) (length answers.old)) }
 {
     let mut l = blank();
     let mut at: usize = 0;
     let mut written: usize = 0;
     while at < script.len() {
-        match step(script, symbols, wording, answers, at, l, written) {
+        match step(script, stores, answers, at, l, written) {
             Ok(s) => {
                 l = s.layout;
                 at = s.next;

@@ -14,22 +14,17 @@ use wire::{fields, words};
 // Why a run ends before its script does: no such command or field, a command that is cut short, no room for an answer, a part that runs past its source.
 #[derive(Clone, Copy, PartialEq, Eq)]
 pub enum Ended {
-    Unknown,
-    CutShort,
-    NoRoom,
-    PastSource,
+    Unknown = 1,
+    CutShort = 2,
+    NoRoom = 3,
+    PastSource = 4,
 }
 
 impl From<Ended> for u32 {
     ghost from_gives = { λ e n. n ≡ code_of e };
 
     fn from(e: Ended) -> u32 {
-        match e {
-            Ended::Unknown => 1,
-            Ended::CutShort => 2,
-            Ended::NoRoom => 3,
-            Ended::PastSource => 4,
-        }
+        e as u32
     }
 }
 
@@ -54,11 +49,9 @@ fn write_answer(answers: &mut [u8], written: usize, a: Answer) -> usize
     ensures value { result ≡ written + length (answer_bytes (take a.count a.words) []) }
     ensures answers_after { answers.new ≡ put answers.old written (answer_bytes (take a.count a.words) []) }
 {
-    let count = a.count;
-    let list = a.words;
-    words::put_word(answers, written, count as u32);
-    words::put_words(answers, written + 4, list, count);
-    written + 4 + 4 * count
+    words::put_word(answers, written, a.count as u32);
+    words::put_words(answers, written + 4, &a.words[..a.count]);
+    written + 4 + 4 * a.count
 }
 
 pub fn say(

@@ -2,9 +2,11 @@
 #![tactic(auto)]
 
 ghost use Rattle.std.specs.Prelude.{◌≡◌, length};
-ghost use Rattle.art.specs.Stores.{lent};
+ghost use Rattle.art.specs.Stores.{holding};
 ghost use Rattle.wire.specs.Bytes.{put};
 ghost use Rattle.script.specs.Running.{ran};
+
+use art::memory_rgba8_texture::Stores;
 
 // How many bytes of the answers were written.
 #[unsafe(no_mangle)]
@@ -14,8 +16,8 @@ pub extern "C" fn firmeskal_run<'a>(
     wording: &'a [u8],
     answers: &mut [u8],
 ) -> usize
-    ensures value { result ≡ length (ran script.now (lent symbols.now wording.now) (length answers.old)) }
-    ensures answers_after { answers.new ≡ put answers.old 0 (ran script.now (lent symbols.now wording.now) (length answers.old)) }
+    ensures value { result ≡ length (ran script.now (holding symbols.now wording.now) (length answers.old)) }
+    ensures answers_after { answers.new ≡ put answers.old 0 (ran script.now (holding symbols.now wording.now) (length answers.old)) }
 {
-    script::run(script, symbols, wording, answers)
+    script::run(script, Stores { symbols, wording }, answers)
 }

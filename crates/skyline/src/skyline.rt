@@ -3,8 +3,9 @@ ghost use Rattle.std.specs.Prelude.{◌≡◌, [], ℕ, ◌+◌, ◌≤◌, ◌<
 ghost use Rattle.skyline.specs.declared.skyline.Skyline.{Skyline};
 ghost use Rattle.skyline.specs.Skyline.{Shape, edge, Pushed, Kept, Starts, Raised, Walked, Holds};
 
-// Segment i has the columns from xs[i] up to xs[i + 1] and the height ys[i]; xs[n] is the area's edge. A page of 256 images
-// has at most 257 segments. It is 2 KB, and lent wherever it is used.
+// Segment i has the columns from xs[i] up to xs[i + 1] and the height ys[i]; xs[n] is the area's edge. The packing core has no
+// heap, so there are as many places as a page of 256 images needs: 257 segments, and the edge. A skyline is 2 KB, and lent
+// wherever it is used.
 #[derive(Clone, Copy)]
 pub struct Skyline {
     pub(crate) xs: [u32; 258],
@@ -42,15 +43,13 @@ impl Skyline {
         ensures { Pushed self.old y e self.new }
     {
         let n = self.n;
-        if 0 < n {
-            if self.ys[n - 1] == y {
-                self.xs[n] = e;
-                return;
-            }
+        if 0 < n && self.ys[n - 1] == y {
+            self.xs[n] = e;
+        } else {
+            self.ys[n] = y;
+            self.xs[n + 1] = e;
+            self.n = n + 1;
         }
-        self.ys[n] = y;
-        self.xs[n + 1] = e;
-        self.n = n + 1;
     }
 
     // The segment that starts at column s.

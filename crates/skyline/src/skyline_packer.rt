@@ -1,5 +1,5 @@
 // One page's skyline, after skyline_packer.rs of texture_packer: the search for the best spot for a cell, and the skyline with
-// the cell there.
+// the cell there. The area and whether cells may be turned stay two parameters, as the rule's definitions take them.
 ghost use Rattle.std.specs.Prelude.{◌≡◌, List, ℕ, ◌+◌, ◌-◌, ◌≤◌, ◌<◌, get_or, leb, MatchOption};
 ghost use Rattle.geometry.specs.Words.{any};
 ghost use Rattle.geometry.specs.Placing.{rank, top, lying, cell_at, spot_at, inside, orientations, fitting_at, best_of, spot_for, is_found};

@@ -2,7 +2,7 @@ use Prim.Native.Nat.{◌+◌}
 use native.Mathlib.Omega.{arith}
 use mathlib.Core.Path.{◌≡◌, sym, ap, ◌∙◌}
 use borrow.Author.Tests.{eq-eqb, ne_eqb}
-use Rattle.paint.specs.declared.background.Background.TheVariants.{Colour}
+use Rattle.std.specs.Prelude.{Some}
 use Rattle.wire.specs.Bytes.{word_at}
 use Rattle.wire.specs.Fields.{is_on}
 use Rattle.commands.specs.Reading.{background_at, colour_of, threshold_of}
@@ -22,7 +22,7 @@ returns c =
     let a = c.args in
     let z : a.at ≡ a.at + 0 = omega arith in
     let e = c.word_at.ensures ∙ ap (word_at a.script.now) z in
-    let colour = c.colour_of-colour.ensures ∙ ap colour_of c.word_at-2.ensures in
-    let threshold = c.threshold_of-threshold.ensures ∙ ap threshold_of c.word_at-3.ensures in
-    let discard = c.is_on-discard.ensures ∙ ap is_on c.word_at-4.ensures in
-    rw (ne_eqb _ _ (λ q. c.if-word_at-eq0.false (e ∙ q))) (λ i. Colour (colour i) (threshold i) (discard i))
+    let colour = c.colour_of.ensures ∙ ap colour_of c.word_at-2.ensures in
+    let threshold = c.threshold_of.ensures ∙ ap threshold_of c.word_at-3.ensures in
+    let discard = c.is_on.ensures ∙ ap is_on c.word_at-4.ensures in
+    rw (ne_eqb _ _ (λ q. c.if-word_at-eq0.false (e ∙ q))) (λ i. Some (record { pixel = colour i; threshold = threshold i; discard = discard i }))

@@ -1,38 +1,28 @@
 use mathlib.Core.Bool.{false}
 use mathlib.Core.Path.{◌≡◌, sym, ◌∙◌}
-use native.Mathlib.Omega.{arith}
-use lib.ListN.{length}
 use Rattle.geometry.specs.Words.{any}
 use Rattle.std.specs.Prelude.{Err, Some}
 use Rattle.std.proofs.Common.{rules}
 use Rattle.art.specs.Stores.{lent, runs_past}
-use Rattle.records.proofs.Keys.{named, unnamed}
-use Rattle.records.proofs.Standing.{standing-long}
-use Rattle.records.proofs.Checks.{formed}
 use Rattle.records.specs.declared.refusal.Refusal.TheVariants.{BadSize, PastStore, KeyStands, AllClear}
 use Rattle.records.specs.Layouts.{standing, has_key}
 use Rattle.rules.specs.Operations.{bad_size}
 use Rattle.offers.proofs.Keeping.{kept_clear, KeptBox, kept_box, sized, sized_kept}
-use Rattle.offers.proofs.Rows.{refuses, rest-size, rest-store, rest-key, rest-clear, rest-art}
+use Rattle.offers.proofs.Rows.{named-stands, refuses, rest-size, rest-store, rest-key, rest-clear, rest-art}
 use Rattle.offers.proofs.checked_art.Goals.{Start}
-use Rattle.offers.proofs.checked_art.Goals.{Else-find_key-l}
+use Rattle.offers.proofs.checked_art.Goals.{Else-is_some}
 use Rattle.offers.proofs.checked_art.Goals.{In_ok-kept}
 use Rattle.offers.proofs.checked_art.Goals as goal
 
-standing-count : (c : Start) → length (standing c.args.l) ≡ c.args.l.count
-standing-count c = standing-long c.args.l (c.well_formed.0.1.1.1.1.0.1.0.1) (formed _ c.requires).few
-
 -- 4, 5 and 6 do not hold
-size-fine : (c : Else-find_key-l) → let a = c.args in bad_size a.image.w a.image.h ≡ false
+size-fine : (c : Else-is_some) → let a = c.args in bad_size a.image.w a.image.h ≡ false
 size-fine c = sym c.bad_size.ensures ∙ c.if-bad_size.false
 
-in_store : (c : Else-find_key-l) → runs_past (lent c.args.stores) c.args.image ≡ false
+in_store : (c : Else-is_some) → runs_past (lent c.args.stores) c.args.image ≡ false
 in_store c = sym c.runs_past.ensures ∙ c.if-runs_past.false
 
-new-key : (c : Else-find_key-l) → any (has_key c.args.key) (standing c.args.l) ≡ false
-new-key c =
-    let n = standing-long c.args.l (c.well_formed.0.1.1.1.1.0.1.0.1) (formed _ c.requires).few in
-    (unnamed c.args.key (standing c.args.l) (omega (arith, n, c.find_key.ensures, c.if-find_key-l.false))).stands
+new-key : (c : Else-is_some) → any (has_key c.args.key) (standing c.args.l) ≡ false
+new-key c = sym (named-stands c.args.l _ _ c.named.ensures) ∙ sym c.is_some.ensures ∙ c.if-is_some.false
 
 keeps : (c : In_ok-kept) → KeptBox (lent c.args.stores) c.args.image c.args.l.config.trim c.in_ok-kept.kept
 keeps c =
@@ -45,11 +35,11 @@ returns-then-bad_size-clause-is c = refuses _ _ BadSize (rest-size c.args.l _ _ 
 pub returns-then-runs_past-clause-is : goal.returns-then-runs_past-clause-is
 returns-then-runs_past-clause-is c = refuses _ _ PastStore (rest-store c.args.l _ _ _ (sym c.bad_size.ensures ∙ c.if-bad_size.false) (sym c.runs_past.ensures ∙ c.if-runs_past.true))
 
-pub returns-then-find_key-l-clause-is : goal.returns-then-find_key-l-clause-is
-returns-then-find_key-l-clause-is c =
+pub returns-then-is_some-clause-is : goal.returns-then-is_some-clause-is
+returns-then-is_some-clause-is c =
     refuses _ _ KeyStands
     (rest-key c.args.l _ _ _ (sym c.bad_size.ensures ∙ c.if-bad_size.false) (sym c.runs_past.ensures ∙ c.if-runs_past.false)
-    (named c.args.key (standing c.args.l) (omega (arith, standing-count (goal.at.returns-then-find_key-l-clause-is c).Start, c.find_key.ensures, c.if-find_key-l.true))).stands)
+    (sym (named-stands c.args.l _ _ c.named.ensures) ∙ sym c.is_some.ensures ∙ c.if-is_some.true))
 
 pub kept_box-requires : goal.kept_box-requires
 kept_box-requires c = record { inside = in_store c }
@@ -57,17 +47,17 @@ kept_box-requires c = record { inside = in_store c }
 pub returns-in_err-kept-clause-is : goal.returns-in_err-kept-clause-is
 returns-in_err-kept-clause-is c =
     let e : c.from_residual.result ≡ Err AllClear = search rules in
-    let b = (goal.at.returns-in_err-kept-clause-is c).Else-find_key-l in
+    let b = (goal.at.returns-in_err-kept-clause-is c).Else-is_some in
     e ∙ refuses _ _ AllClear (rest-clear c.args.l (lent c.args.stores) _ _ (size-fine b) (in_store b) (new-key b) (kept_clear _ _ _ (sym c.kept_box.ensures ∙ c.in_err-kept.ensures.ok_part)))
 
 pub returns-clause-is : goal.returns-clause-is
 returns-clause-is c =
     let k = keeps c in
-    let b = (goal.at.returns-clause-is c).Else-find_key-l in
+    let b = (goal.at.returns-clause-is c).Else-is_some in
     rest-art c.args.l (lent c.args.stores) c.args.key c.args.image (size-fine b) (in_store b) (new-key b) _ k.shows k.is
 
 pub returns-clause-sized : goal.returns-clause-sized
 returns-clause-sized c =
     let k = keeps c in
-    let z = size-fine (goal.at.returns-clause-sized c).Else-find_key-l in
+    let z = size-fine (goal.at.returns-clause-sized c).Else-is_some in
     (sized _ _ z, sized_kept c.args.l.config.trim (lent c.args.stores) c.args.image _ z k.shows k.is)

@@ -14,5 +14,5 @@ pub returns-then-answers-lt12 : goal.returns-then-answers-lt12
 unfolding ran
 returns-then-answers-lt12 c =
     let a = c.args in
-    let none : ran a.script.now (lent a.symbols.now a.wording.now) (length a.answers.now) ≡ [] = rw (lt-ltb (length a.answers.now) 12 (omega (arith, c.if-answers-lt12.true))) in
+    let none : ran a.script.now (lent a.stores) (length a.answers.now) ≡ [] = rw (lt-ltb (length a.answers.now) 12 (omega (arith, c.if-answers-lt12.true))) in
     record { value = ap length (sym none); answers_after = sym (put-none a.answers.now 0) ∙ ap (put a.answers.now 0) (sym none) }

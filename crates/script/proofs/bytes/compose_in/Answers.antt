@@ -14,7 +14,7 @@ unfolding compose_outcome compose_pixels page_at
 returns c =
     let a = c.args in
     let pre = c.requires in
-    let s = lent a.symbols.now a.wording.now in
+    let s = lent a.stores in
     let old = a.answers.now in
     let size = word a.script.now a.at 8 in
     let page = page_at a.script.now a.at in

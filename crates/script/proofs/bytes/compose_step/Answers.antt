@@ -19,7 +19,7 @@ pub returns-then-answers-written : goal.returns-then-answers-written
 returns-then-answers-written c =
     let a = c.args in
     let script = a.script.now in
-    let s = lent a.symbols.now a.wording.now in
+    let s = lent a.stores in
     let old = a.answers.now in
     let said = take a.written old in
     let so : length said ≡ a.written = length-take-le a.written old (omega arith) in
@@ -45,7 +45,7 @@ unfolding next_at words_of
 returns c =
     let a = c.args in
     let script = a.script.now in
-    let s = lent a.symbols.now a.wording.now in
+    let s = lent a.stores in
     let old = a.answers.now in
     let said = take a.written old in
     let so : length said ≡ a.written = length-take-le a.written old (omega arith) in
@@ -57,5 +57,5 @@ returns c =
     does_go a.written old _ (compose_step script s (length old) said a.at a.l) _ a.l (a.at + 36) (compose_said script s a.at a.l)
     (compose_goes script s a.at a.l (length old) said (omega arith))
     (λ i. Ok (record { layout = a.l; next = a.at + 36; written = to i }))
-    (compose_written script s a.at a.l old a.written c.compose_in-o.result c.composed.result c.composed_size-more.result
-    c.compose_in-o.ensures.value c.composed.ensures m c.compose_in-o.ensures.answers_after c.write_number.ensures (omega arith))
+    (compose_written script s a.at a.l old a.written c.compose_in-o.result c.number.result c.composed_size-more.result
+    c.compose_in-o.ensures.value c.number.ensures.composed m c.compose_in-o.ensures.answers_after c.write_number.ensures (omega arith))

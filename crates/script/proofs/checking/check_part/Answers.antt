@@ -24,7 +24,7 @@ unfolding check_past check_numbers page_at
 returns c =
     let a = c.args in
     let script = a.script.now in
-    let s = lent a.symbols.now a.wording.now in
+    let s = lent a.stores in
     let from = c.word_at-a.ensures in
     let size = c.word_at-2.ensures in
     let long : c.word_at-a.result + c.word_at-2.result - c.word_at-a.result ≡ word script a.at 10 = omega arith in

@@ -24,4 +24,4 @@ unfolding check_source
 returns-in_default c =
     let e = c.word_at.ensures in
     let above : 3 ≤ word c.args.script.now c.args.at 8 = omega arith in
-    sym (get_or-eq_default (c.args.script.now ∷ c.args.said.now ∷ c.args.symbols.now ∷ []) c.args.wording.now above)
+    sym (get_or-eq_default (c.args.script.now ∷ c.args.said.now ∷ c.args.stores.symbols.now ∷ []) c.args.stores.wording.now above)

@@ -14,7 +14,7 @@ pub returns-in_err-a : goal.returns-in_err-a
 returns-in_err-a c =
     let a = c.args in
     let script = a.script.now in
-    let s = lent a.symbols.now a.wording.now in
+    let s = lent a.stores in
     let old = a.answers.now in
     let said = take a.written old in
     let result : c.from_residual.result ≡ Err c.in_err-a.field-0.0 = search rules in
@@ -30,7 +30,7 @@ unfolding next_at words_of
 returns c =
     let a = c.args in
     let script = a.script.now in
-    let s = lent a.symbols.now a.wording.now in
+    let s = lent a.stores in
     let old = a.answers.now in
     let said = take a.written old in
     let source = c.check_source-source.ensures in

@@ -23,7 +23,7 @@ use Rattle.script.proofs.running.run_command.Goals as goal
 -- what the function does for a command
 abbrev Runs : (c : Start) → Command → List ℕ → Result Step Ended → Type 0
 Runs c k new r =
-    Does (command_step c.args.script.now (lent c.args.symbols.now c.args.wording.now) (length c.args.answers.now) (take c.args.written c.args.answers.now) c.args.at c.args.l (command_number k))
+    Does (command_step c.args.script.now (lent c.args.stores) (length c.args.answers.now) (take c.args.written c.args.answers.now) c.args.at c.args.l (command_number k))
     c.args.written c.args.answers.now new r
 
 known : (c : Start) (k : Command) (new : List ℕ) (r : Result Step Ended) → c.args.command ≡ k → Runs c k new r → Runs c c.args.command new r
@@ -107,7 +107,7 @@ unfolding command_step next_at
 returns c =
     let a = c.args in
     let script = a.script.now in
-    let s = lent a.symbols.now a.wording.now in
+    let s = lent a.stores in
     let room = length a.answers.now in
     let said = take a.written a.answers.now in
     let words = c.words.ensures.value in

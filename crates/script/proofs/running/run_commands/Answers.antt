@@ -13,12 +13,12 @@ blank-l-requires c = tt
 pub loop-at-init : goal.loop-at-init
 loop-at-init c =
     let a = c.args in
-    going_start a.script.now (lent a.symbols.now a.wording.now) a.answers.now c.blank-l.result c.blank-l.ensures c.requires
+    going_start a.script.now (lent a.stores) a.answers.now c.blank-l.result c.blank-l.ensures c.requires
 
 pub step-requires : goal.step-requires
 step-requires c =
     let a = c.args in
-    let s = lent a.symbols.now a.wording.now in
+    let s = lent a.stores in
     let k = c.loop-at in
     let n = going_long a.script.now s a.answers.now k.answers k.l k.at k.written k.invariant in
     let r = k.invariant.room in
@@ -27,7 +27,7 @@ step-requires c =
 pub finish-requires : goal.finish-requires
 finish-requires c =
     let a = c.args in
-    let s = lent a.symbols.now a.wording.now in
+    let s = lent a.stores in
     let k = c.loop-at in
     let n = going_long a.script.now s a.answers.now k.answers k.l k.at k.written k.invariant in
     let m = ap length (unchanged a.script.now s a.answers.now k.answers k.l k.at k.written k.invariant c.loop-at-test.true _ c.in-Err.ended c.in-Err.ensures) in
@@ -37,7 +37,7 @@ finish-requires c =
 pub returns-in-Err : goal.returns-in-Err
 returns-in-Err c =
     let a = c.args in
-    let s = lent a.symbols.now a.wording.now in
+    let s = lent a.stores in
     let k = c.loop-at in
     let f = c.finish.ensures in
     let code = f.1 ∙ ap (λ n. put c.step.new.answers k.written (end_bytes n k.at)) c.from.ensures in
@@ -47,7 +47,7 @@ returns-in-Err c =
 pub loop-at-smaller : goal.loop-at-smaller
 loop-at-smaller c =
     let a = c.args in
-    let s = lent a.symbols.now a.wording.now in
+    let s = lent a.stores in
     let k = c.loop-at in
     let o = (goes a.script.now s a.answers.now k.answers k.l k.at k.written k.invariant c.loop-at-test.true _ c.in-Ok.s c.in-Ok.ensures).1 in
     omega arith
@@ -55,14 +55,14 @@ loop-at-smaller c =
 pub loop-at-preserved : goal.loop-at-preserved
 loop-at-preserved c =
     let a = c.args in
-    let s = lent a.symbols.now a.wording.now in
+    let s = lent a.stores in
     let k = c.loop-at in
     (goes a.script.now s a.answers.now k.answers k.l k.at k.written k.invariant c.loop-at-test.true _ c.in-Ok.s c.in-Ok.ensures).0
 
 pub finish-requires-2 : goal.finish-requires-2
 finish-requires-2 c =
     let a = c.args in
-    let s = lent a.symbols.now a.wording.now in
+    let s = lent a.stores in
     let k = c.loop-at in
     let n = going_long a.script.now s a.answers.now k.answers k.l k.at k.written k.invariant in
     let r = k.invariant.room in
@@ -71,7 +71,7 @@ finish-requires-2 c =
 pub returns : goal.returns
 returns c =
     let a = c.args in
-    let s = lent a.symbols.now a.wording.now in
+    let s = lent a.stores in
     let k = c.loop-at in
     let f = c.finish-2.ensures in
     let e = ended a.script.now s a.answers.now k.answers k.l k.at k.written k.invariant c.loop-at-test.false f.1 in

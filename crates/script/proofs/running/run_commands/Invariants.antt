@@ -6,7 +6,7 @@ use Rattle.script.proofs.running.run_commands.Given as goal
 
 -- `run_commands` says what is left to say, command by command. Assumes nothing.
 abbrev pub invariant-loop-at : goal.invariant-loop-at
-invariant-loop-at l = Going l.script (lent l.symbols l.wording) l.initial.answers l.answers l.l l.at l.written
+invariant-loop-at l = Going l.script (lent l.stores) l.initial.answers l.answers l.l l.at l.written
 
 abbrev pub decreases-loop-at : goal.decreases-loop-at
 decreases-loop-at l = length l.script - l.at
