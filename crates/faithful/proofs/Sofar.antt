@@ -99,3 +99,12 @@ module _ (l : Layout) (f : Formed l) (rs : List Record) (is : rs ≡ standing l)
         is = ap Some sk.count ∙ ap (λ (z : Bool). pages_if z l) (sym (ap (placed_so l.config (take i rs)) b) ∙ sf.passed ∙ ap (placed_so l.config []) is);
         skies = λ p q. let z : pages ≡ p = cc in subst (λ (n : ℕ). Skies l.config (standing l) n sky) z sk;
       }
+
+-- ## the configuration of the layout, by another name
+
+module _ {c d : Config} (e : c ≡ d) {rs : List Record} where
+  pub skies-as : {n : ℕ} {sky : Pages} → Skies d rs n sky → Skies c rs n sky
+  skies-as {n} {sky} h = subst (λ (k : Config). Skies k rs n sky) (sym e) h
+
+  pub replayed-as : {r : Record} {so : Bool} {sky : Pages} → Replayed c rs r so sky → Replayed d rs r so sky
+  replayed-as {r} {so} {sky} h = subst (λ (k : Config). Replayed k rs r so sky) e h

@@ -1,6 +1,6 @@
 -- Keys that differ, whole boxes, and 2 and 3 together: the code's tests are the definitions'. Assumes nothing.
 use Prim.Native.Nat.{ℕ, ◌+◌, ◌<◌}
-use mathlib.Core.Path.{◌≡◌, refl, sym, ap, ◌∙◌}
+use mathlib.Core.Path.{◌≡◌, refl, sym, ap, ◌∙◌, subst}
 use mathlib.Core.Bool.{Bool, true, false, cond, not, ◌&&◌, ◌||◌}
 use mathlib.Core.List.{List, [], ◌∷◌, ◌++◌, map}
 use native.Mathlib.Numerals.{add-one}
@@ -114,7 +114,6 @@ pub whole_trim : (c : Config) (r : Record) → c.trim ≡ true → true ≡ whol
 unfolding whole_if_untrimmed
 whole_trim c r e = rw e
 
--- TODO
 -- ## 2 and 3
 
 module _ (l : Layout) (sky : Pages) where
@@ -133,6 +132,9 @@ module _ (l : Layout) (sky : Pages) where
       keeps : (s : Option ℕ) → ((p : ℕ) → s ≡ Some p → Skies l.config (standing l) p sky) → (p : ℕ) → ok_or s NotFaithful ≡ Ok p → Skies l.config (standing l) p sky
       keeps None h p q = absurd (cc)
       keeps (Some n) h p q = h p (cc)
+
+pub trust-as : {k l : Layout} → k ≡ l → (sky : Pages) (s : Option ℕ) → well_formed k ≡ true → Tested k s sky → Trusted l (ok_or s NotFaithful) sky
+trust-as {k} e sky s w t = subst (λ (z : Layout). Trusted z (ok_or s NotFaithful) sky) e (trust-tested k sky s w t)
 
 -- ## what the answer says of the layout
 

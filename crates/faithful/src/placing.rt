@@ -1,7 +1,6 @@
 // The canvas, cells, and the record of an image at a spot.
-ghost use Rattle.std.specs.Prelude.{◌≡◌, true, ◌≤◌};
+ghost use Rattle.std.specs.Prelude.{◌≡◌, ◌≤◌};
 ghost use Rattle.geometry.specs.Fits.{HasPixels};
-ghost use Rattle.records.specs.Settings.{in_bounds};
 ghost use Rattle.rules.specs.Placing.{canvas, cell_size, record_for};
 ghost use Rattle.faithful.specs.Replay.{Sized, Near, stood};
 
@@ -10,23 +9,24 @@ use geometry::spot;
 use geometry::spot::Spot;
 use records::frame::{Page, Record, Source};
 use records::refusal::Refusal;
-use records::texture_packer_config::Config;
+use records::texture_packer_config::InBounds;
 use rules::placing::Art;
 
-pub fn canvas_of(c: Config) -> Size
-    requires { in_bounds c ≡ true }
-    ensures { result ≡ canvas c }
+pub fn canvas_of(c: InBounds) -> Size
+    ensures { result ≡ canvas c.config }
 {
+    let c = c.config;
     Size {
         w: c.maxw,
         h: c.maxh - 1,
     }
 }
 
-pub fn cell_size(c: Config, s: Size) -> Size
-    requires { (in_bounds c ≡ true) × Sized s }
-    ensures { (result ≡ cell_size c s) × HasPixels result }
+pub fn cell_size(c: InBounds, s: Size) -> Size
+    requires { Sized s }
+    ensures { (result ≡ cell_size c.config s) × HasPixels result }
 {
+    let c = c.config;
     let m = c.padding + 2 * c.extrusion;
     Size {
         w: s.w + m,
@@ -35,10 +35,11 @@ pub fn cell_size(c: Config, s: Size) -> Size
 }
 
 // The record of an image at a spot. Where there is none the image is too large.
-pub fn record_for(c: Config, a: Art, p: u32, f: Option<Spot>) -> Result<Record, Refusal>
-    requires { (in_bounds c ≡ true) × Near f }
-    ensures { result ≡ stood (record_for c a p f) }
+pub fn record_for(c: InBounds, a: Art, p: u32, f: Option<Spot>) -> Result<Record, Refusal>
+    requires { Near f }
+    ensures { result ≡ stood (record_for c.config a p f) }
 {
+    let c = c.config;
     let k = f.ok_or(Refusal::TooLarge)?;
     let kept = a.kept;
     let whole = a.whole;

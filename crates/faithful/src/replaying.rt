@@ -1,8 +1,7 @@
 // The replay of the standing records: whether the placing rule gives each its page, place and turn. It hands on the skylines that it built.
 ghost use Rattle.std.specs.Prelude.{◌≡◌, true, List, ◌+◌, ◌≤◌, ◌<◌, max, length};
-ghost use Rattle.records.specs.Settings.{in_bounds};
 ghost use Rattle.records.specs.Records.{record_well_formed};
-ghost use Rattle.records.specs.Layouts.{standing, well_formed};
+ghost use Rattle.records.specs.Layouts.{standing};
 ghost use Rattle.records.specs.declared.frame.Record.{Record};
 ghost use Rattle.rules.specs.Placing.{record_for};
 ghost use Rattle.rules.specs.Faithful.{art_of, same_spot};
@@ -14,15 +13,15 @@ use geometry::spot::Spot;
 use pages::Pages;
 use records::frame;
 use records::frame::Record;
-use records::layout::Layout;
-use records::texture_packer_config::Config;
+use records::layout::WellFormed;
+use records::texture_packer_config::InBounds;
 
 // Whether a spot on the record's page is the record's.
-fn same_spot(c: Config, r: Record, f: Option<Spot>) -> bool
-    requires { (in_bounds c ≡ true) × (record_well_formed c r ≡ true) }
-    ensures { result ≡ same_spot r (record_for c (art_of r) r.page.0 f) }
+fn same_spot(c: InBounds, r: Record, f: Option<Spot>) -> bool
+    requires { record_well_formed c.config r ≡ true }
+    ensures { result ≡ same_spot r (record_for c.config (art_of r) r.page.0 f) }
 {
-    let b = c.border;
+    let b = c.config.border;
     match f {
         None => false,
         Some(k) => (r.frame.x - b, r.frame.y - b, r.turn) == (k.at.x, k.at.y, k.turn),
@@ -30,15 +29,15 @@ fn same_spot(c: Config, r: Record, f: Option<Spot>) -> bool
 }
 
 // Whether the rule puts the next record where it is; if so, the skylines have it.
-fn replay_one(skies: &mut Pages, c: Config, pages: usize, r: Record) -> bool
-    requires c_value { (in_bounds c ≡ true) × (record_well_formed c r ≡ true) × (pages ≤ 8) }
-    requires some_skies { SomeSkies c pages skies.old }
-    ensures { (rs : List Record) → Skies c rs pages skies.old →
-        Replayed c rs r result skies.new }
+fn replay_one(skies: &mut Pages, c: InBounds, pages: usize, r: Record) -> bool
+    requires c_value { (record_well_formed c.config r ≡ true) × (pages ≤ 8) }
+    requires some_skies { SomeSkies c.config pages skies.old }
+    ensures { (rs : List Record) → Skies c.config rs pages skies.old →
+        Replayed c.config rs r result skies.new }
 {
     let area = placing::canvas_of(c);
     let whole = placing::cell_size(c, frame::whole_of(r));
-    let rotation = c.rotation;
+    let rotation = c.config.rotation;
     let p = skies.first_page(pages, area, rotation, whole);
     if r.page.0 as usize != p {
         return false;
@@ -57,12 +56,11 @@ fn replay_one(skies: &mut Pages, c: Config, pages: usize, r: Record) -> bool
 
 // The standing records placed again, one after the other, on empty pages: how many pages there are, if every record stands where the rule
 // puts it.
-pub fn replay(l: Layout, skies: &mut Pages) -> Option<usize>
-    requires { well_formed l ≡ true }
-    ensures { Ran l result skies.new }
+pub fn replay(l: WellFormed<'_>, skies: &mut Pages) -> Option<usize>
+    ensures { Ran l.entry.layout.now result skies.new }
 {
-    let c = l.config;
-    *skies = Pages::new(c.maxw);
+    let c = l.config();
+    *skies = Pages::new(c.config.maxw);
     let mut pages = 0;
     for r in l.standing() {
         if !replay_one(skies, c, pages, *r) {

@@ -1,19 +1,19 @@
 // 2 and 3 of every operation that asks them, for every layout: well-formed, keys that differ, whole boxes where nothing is trimmed, and the
 // replay. Where all hold, the skylines are handed on.
-ghost use Rattle.std.specs.Prelude.{◌≡◌, true, map, ◌≤◌, length, take, drop, eqb};
+ghost use Rattle.std.specs.Prelude.{◌≡◌, map, ◌≤◌, length, take, drop, eqb};
 ghost use Rattle.geometry.specs.Words.{all, any};
-ghost use Rattle.records.specs.Layouts.{standing, well_formed};
+ghost use Rattle.records.specs.Layouts.{standing};
 ghost use Rattle.rules.specs.Faithful.{keys_differ, whole_if_untrimmed};
 ghost use Rattle.faithful.specs.Replay.{distinct, key_of, Tested, Trusted};
 
 use crate::replaying;
 use geometry::rect::Rect;
 use pages::Pages;
+use records::frame;
 use records::frame::Record;
-use records::layout::Layout;
+use records::layout::{Layout, WellFormed};
 use records::refusal::Refusal;
 use records::texture_packer_config::Config;
-use records::{frame, layout};
 
 fn all_differ(keys: &[u32]) -> bool
     ensures { result ≡ distinct keys.now }
@@ -36,9 +36,8 @@ fn copy_keys(records: &[Record], keys: &mut [u32])
     }
 }
 
-fn keys_differ(l: Layout) -> bool
-    requires { well_formed l ≡ true }
-    ensures { result ≡ keys_differ (standing l) }
+fn keys_differ(l: WellFormed<'_>) -> bool
+    ensures { result ≡ keys_differ (standing l.entry.layout.now) }
 {
     let standing = l.standing();
     let mut keys = [0u32; 256];
@@ -54,19 +53,16 @@ fn whole_if_untrimmed(c: Config, r: Record) -> bool
     c.trim || frame::box_of(r) == Rect::new(0, 0, s.w, s.h)
 }
 
-fn all_whole(l: Layout) -> bool
-    requires { well_formed l ≡ true }
-    ensures { result ≡ all (whole_if_untrimmed l.config) (standing l) }
+fn all_whole(l: WellFormed<'_>) -> bool
+    ensures { result ≡ all (whole_if_untrimmed l.entry.layout.now.config) (standing l.entry.layout.now) }
 {
-    l.standing()
-        .iter()
-        .all(|r| whole_if_untrimmed(l.config, *r))
+    let c = l.layout.config;
+    l.standing().iter().all(|r| whole_if_untrimmed(c, *r))
 }
 
 // The number of the layout's pages if it is faithful, and their skylines.
-fn is_faithful(l: Layout, skies: &mut Pages) -> Option<usize>
-    requires { well_formed l ≡ true }
-    ensures { Tested l result skies.new }
+fn is_faithful(l: WellFormed<'_>, skies: &mut Pages) -> Option<usize>
+    ensures { Tested l.entry.layout.now result skies.new }
 {
     if !keys_differ(l) || !all_whole(l) {
         return None;
@@ -77,8 +73,6 @@ fn is_faithful(l: Layout, skies: &mut Pages) -> Option<usize>
 pub fn trusted(l: Layout, skies: &mut Pages) -> Result<usize, Refusal>
     ensures { Trusted l result skies.new }
 {
-    if !layout::well_formed(l) {
-        return Err(Refusal::NotWellFormed);
-    }
+    let l = l.well_formed().ok_or(Refusal::NotWellFormed)?;
     is_faithful(l, skies).ok_or(Refusal::NotFaithful)
 }

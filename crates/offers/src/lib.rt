@@ -1,11 +1,10 @@
 // An offer on the skylines that the standing records left: the checks past 2 and 3, and the step of the placing rule.
 #![tactic(auto)]
 
-ghost use Rattle.std.specs.Prelude.{◌≡◌, true, List, ◌≤◌, ◌<◌, IfOk};
+ghost use Rattle.std.specs.Prelude.{◌≡◌, List, ◌≤◌, ◌<◌, IfOk};
 ghost use Rattle.art.specs.Stores.{lent, InStore};
-ghost use Rattle.records.specs.Settings.{in_bounds};
 ghost use Rattle.records.specs.Records.{size_of};
-ghost use Rattle.records.specs.Layouts.{standing, well_formed};
+ghost use Rattle.records.specs.Layouts.{standing};
 ghost use Rattle.records.specs.Refusals.{first_refusal};
 ghost use Rattle.records.specs.declared.frame.Record.{Record};
 ghost use Rattle.rules.specs.Placing.{placed};
@@ -21,10 +20,10 @@ use geometry::spot;
 use geometry::spot::Turn;
 use pages::Pages;
 use records::frame::{Key, Record};
-use records::layout::{Answered, Layout};
+use records::layout::{Answered, Layout, WellFormed};
 use records::refusal::Refusal;
 use records::texture_packer_config;
-use records::texture_packer_config::Config;
+use records::texture_packer_config::InBounds;
 use rules::multi_texture_packer::{Offering, Place};
 use rules::placing::Art;
 
@@ -43,15 +42,15 @@ fn fits_empty(area: Size, s: Size) -> bool
 }
 
 // 8: by the sides alone, before any page is asked.
-fn too_large(c: Config, s: Size) -> bool
-    requires { (in_bounds c ≡ true) × Sized s }
-    ensures { result ≡ too_large c s }
+fn too_large(c: InBounds, s: Size) -> bool
+    requires { Sized s }
+    ensures { result ≡ too_large c.config s }
 {
     let area = placing::canvas_of(c);
     let cell = placing::cell_size(c, s);
     let upright = fits_empty(area, cell);
     let turned = fits_empty(area, spot::lying_size(Turn::Turned, cell));
-    !(upright | (c.rotation & turned))
+    !(upright | (c.config.rotation & turned))
 }
 
 #[tactic(auto, unfolding(crate::specs::Offers::kept_of, art::specs::Trimming::whole_box))]
@@ -67,9 +66,14 @@ fn kept_box(trim: bool, stores: Stores<'_>, image: Image) -> Option<Rect>
 }
 
 // The checks 4 to 7, and the image as it is placed.
-fn checked_art(l: Layout, stores: Stores<'_>, key: Key, image: Image) -> Result<Art, Refusal>
-    requires { well_formed l ≡ true }
-    ensures is { result ≡ unless (art_for l.config (lent stores.entry) key image) (first_refusal (art_rest l (lent stores.entry) key image)) }
+fn checked_art(
+    l: WellFormed<'_>,
+    stores: Stores<'_>,
+    key: Key,
+    image: Image,
+) -> Result<Art, Refusal>
+    ensures is { result ≡ unless (art_for l.entry.layout.now.config (lent stores.entry) key image)
+        (first_refusal (art_rest l.entry.layout.now (lent stores.entry) key image)) }
     ensures sized { IfOk result (λ a. Sized a.whole × Sized (size_of a.kept)) }
 {
     if bad_size(image.w, image.h) {
@@ -81,7 +85,7 @@ fn checked_art(l: Layout, stores: Stores<'_>, key: Key, image: Image) -> Result<
     if l.named(key).is_some() {
         return Err(Refusal::KeyStands);
     }
-    let kept = kept_box(l.config.trim, stores, image).ok_or(Refusal::AllClear)?;
+    let kept = kept_box(l.layout.config.trim, stores, image).ok_or(Refusal::AllClear)?;
     Ok(Art {
         key,
         store: image.store,
@@ -95,18 +99,18 @@ fn checked_art(l: Layout, stores: Stores<'_>, key: Key, image: Image) -> Result<
 }
 
 // One step of the placing rule: its page, and there the trimmed cell, on the skylines of the records so far.
-fn place_art(skies: &mut Pages, c: Config, pages: usize, a: Art) -> Result<Record, Refusal>
-    requires c_value { (in_bounds c ≡ true) × (pages ≤ 8) × Sized a.whole × Sized (size_of a.kept) }
-    requires some_skies { SomeSkies c pages skies.old }
-    ensures { (rs : List Record) → Skies c rs pages skies.old →
-        Stepped c rs a result skies.new }
+fn place_art(skies: &mut Pages, c: InBounds, pages: usize, a: Art) -> Result<Record, Refusal>
+    requires c_value { (pages ≤ 8) × Sized a.whole × Sized (size_of a.kept) }
+    requires some_skies { SomeSkies c.config pages skies.old }
+    ensures { (rs : List Record) → Skies c.config rs pages skies.old →
+        Stepped c.config rs a result skies.new }
 {
     let area = placing::canvas_of(c);
-    let rotation = c.rotation;
+    let rotation = c.config.rotation;
     let w = a.whole;
     let whole = placing::cell_size(c, w);
     let p = skies.first_page(pages, area, rotation, whole);
-    if c.pages as usize <= p {
+    if c.config.pages as usize <= p {
         return Err(Refusal::PageLimit);
     }
     let k = a.kept;
@@ -118,18 +122,19 @@ fn place_art(skies: &mut Pages, c: Config, pages: usize, a: Art) -> Result<Recor
 // The checks from 4 on, and the record that the image gets.
 fn record_of_offer(
     skies: &mut Pages,
-    l: Layout,
+    l: WellFormed<'_>,
     pages: usize,
     stores: Stores<'_>,
     key: Key,
     image: Image,
 ) -> Result<Record, Refusal>
-    requires { (well_formed l ≡ true) × Skies l.config (standing l) pages skies.old }
-    ensures is { result ≡ record_answer (placed l.config (standing l) (art_for l.config (lent stores.entry) key image))
-        (first_refusal (offer_rest l (lent stores.entry) key image)) }
-    ensures room { IfOk result (λ r. l.count < 256) }
+    requires { Skies l.layout.now.config (standing l.layout.now) pages skies.old }
+    ensures is { result ≡ record_answer (placed l.entry.layout.now.config (standing l.entry.layout.now)
+        (art_for l.entry.layout.now.config (lent stores.entry) key image))
+        (first_refusal (offer_rest l.entry.layout.now (lent stores.entry) key image)) }
+    ensures room { IfOk result (λ r. l.entry.layout.now.count < 256) }
 {
-    let c = l.config;
+    let c = l.config();
     let a = checked_art(l, stores, key, image)?;
     if too_large(
         c,
@@ -140,7 +145,7 @@ fn record_of_offer(
     ) {
         return Err(Refusal::TooLarge);
     }
-    if c.images as usize <= l.count {
+    if c.config.images as usize <= l.layout.count {
         return Err(Refusal::ImageLimit);
     }
     place_art(skies, c, pages, a)
@@ -159,15 +164,17 @@ fn with_record(mut l: Layout, r: Record) -> Layout
 // The checks from 4 on.
 pub fn offer_on(
     skies: &mut Pages,
-    l: Layout,
+    l: WellFormed<'_>,
     pages: usize,
     stores: Stores<'_>,
     key: Key,
     image: Image,
 ) -> Offering
-    requires { (well_formed l ≡ true) × Skies l.config (standing l) pages skies.old }
-    ensures { result ≡ offer_answer l (placed l.config (standing l) (art_for l.config (lent stores.entry) key image))
-        (first_refusal (offer_rest l (lent stores.entry) key image)) }
+    requires { Skies l.layout.now.config (standing l.layout.now) pages skies.old }
+    ensures { result ≡ offer_answer l.entry.layout.now
+        (placed l.entry.layout.now.config (standing l.entry.layout.now)
+        (art_for l.entry.layout.now.config (lent stores.entry) key image))
+        (first_refusal (offer_rest l.entry.layout.now (lent stores.entry) key image)) }
 {
     match record_of_offer(skies, l, pages, stores, key, image) {
         Ok(r) => {
@@ -178,12 +185,12 @@ pub fn offer_on(
             };
             Answered {
                 answer: Ok(place),
-                layout: with_record(l, r),
+                layout: with_record(*l.layout, r),
             }
         }
         Err(refusal) => Answered {
             answer: Err(refusal),
-            layout: l,
+            layout: *l.layout,
         },
     }
 }

@@ -4,7 +4,7 @@ use Rattle.rules.specs.Placing.{canvas}
 use Rattle.faithful.proofs.placing.canvas_of.Goals as goal
 
 pub overflow_sub-result : goal.overflow_sub-result
-overflow_sub-result c = (bounded _ c.requires).tall
+overflow_sub-result c = (bounded _ c.args.c.tested).tall
 
 pub returns : goal.returns
 unfolding canvas

@@ -12,13 +12,13 @@ is-spot : (c : In_ok-k) → c.args.f ≡ Some c.in_ok-k.k
 is-spot c = search rules
 
 pub overflow_add-frame : goal.overflow_add-frame
-overflow_add-frame c = let b = bounded _ c.requires.0 in let n = c.requires.1 _ (is-spot (goal.at.overflow_add-frame c).In_ok-k) in omega (arith, b.border, n.0)
+overflow_add-frame c = let b = bounded _ c.args.c.tested in let n = c.requires _ (is-spot (goal.at.overflow_add-frame c).In_ok-k) in omega (arith, b.border, n.0)
 
 pub overflow_add-frame-2 : goal.overflow_add-frame-2
-overflow_add-frame-2 c = let b = bounded _ c.requires.0 in let n = c.requires.1 _ (is-spot (goal.at.overflow_add-frame-2 c).In_ok-k) in omega (arith, b.border, n.1)
+overflow_add-frame-2 c = let b = bounded _ c.args.c.tested in let n = c.requires _ (is-spot (goal.at.overflow_add-frame-2 c).In_ok-k) in omega (arith, b.border, n.1)
 
 pub returns-in_err-k : goal.returns-in_err-k
 returns-in_err-k c = let e : c.from_residual.result ≡ Err TooLarge = search rules in e ∙ stood-none _ _ _ _ c.in_err-k.ensures.ok_part
 
 pub returns : goal.returns
-returns c = stood-at c.args.c c.args.a c.args.p c.args.f _ _ (is-spot (goal.at.returns c).In_ok-k) c.lying_size-lies.ensures
+returns c = stood-at c.args.c.config c.args.a c.args.p c.args.f _ _ (is-spot (goal.at.returns c).In_ok-k) c.lying_size-lies.ensures

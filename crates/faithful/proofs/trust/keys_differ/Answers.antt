@@ -11,7 +11,7 @@ use Rattle.faithful.proofs.trust.keys_differ.Goals as goal
 
 pub copy_keys-requires : goal.copy_keys-requires
 unfolding standing
-copy_keys-requires c = let n = length-take c.args.l.count c.args.l.records in omega (arith, (formed _ c.requires).few, ap length c.standing-standing.ensures)
+copy_keys-requires c = let n = length-take c.args.l.layout.now.count c.args.l.layout.now.records in omega (arith, (formed _ c.args.l.tested).few, ap length c.standing-standing.ensures)
 
 pub returns : goal.returns
 returns c = c.all_differ.ensures ∙ ap distinct (c.copy_keys.ensures ∙ ap (map key_of) c.standing-standing.ensures) ∙ keys_distinct _

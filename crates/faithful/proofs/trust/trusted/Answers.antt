@@ -1,12 +1,19 @@
-use mathlib.Core.Path.{sym, ◌∙◌}
-use Rattle.faithful.proofs.Trusting.{trust-unformed, trust-tested}
+use mathlib.Core.Path.{◌≡◌}
+use mathlib.Core.Bool.{false}
+use Rattle.std.specs.Prelude.{Err}
+use Rattle.std.proofs.Common.{rules}
+use Rattle.records.specs.Layouts.{well_formed}
+use Rattle.records.specs.declared.refusal.Refusal.TheVariants.{NotWellFormed}
+use Rattle.faithful.proofs.Trusting.{trust-unformed, trust-as}
 use Rattle.faithful.proofs.trust.trusted.Goals as goal
 
-pub returns-then-not-well_formed : goal.returns-then-not-well_formed
-returns-then-not-well_formed c = trust-unformed _ _ (sym c.well_formed-2.ensures ∙ c.if-not-well_formed.true)
-
-pub is_faithful-requires : goal.is_faithful-requires
-is_faithful-requires c = sym c.well_formed-2.ensures ∙ c.if-not-well_formed.false
+pub returns-in_err-l : goal.returns-in_err-l
+returns-in_err-l c =
+    let e : c.from_residual.result ≡ Err NotWellFormed = search rules in
+    let f : well_formed c.args.l ≡ false = search rules in
+    rw e (trust-unformed _ _ f)
 
 pub returns : goal.returns
-returns c = rw c.ok_or.ensures.value (trust-tested c.args.l _ c.is_faithful.result (sym c.well_formed-2.ensures ∙ c.if-not-well_formed.false) c.is_faithful.ensures)
+returns c =
+    let e : c.in_ok-l.l.layout.now ≡ c.args.l = search rules in
+    rw c.ok_or-2.ensures.value (trust-as e _ _ c.in_ok-l.l.tested c.is_faithful.ensures)
