@@ -102,6 +102,7 @@ fn check_band(
     requires le_w { (1 ≤ w) × (w ≤ 6271) × (first + rows ≤ 6271) × (length room.old ≡ 25084) × (length shown.now ≡ 4 * (w * rows)) }
     ensures { result ≡ compared (composed_at l (lent stores.entry) page background) w first rows shown.now }
 {
+    // By hand: `chunks` would give the lent bytes of a part, and its first row and its count of rows would be worked out of them again.
     let mut v: u32 = 0;
     while v < rows {
         let n = rows_at_once(w, rows - v);

@@ -7,19 +7,17 @@ ghost use Rattle.lookup.specs.Reading.{read_refusal, read, read_numbers, part_re
 
 use art::memory_rgba8_texture;
 use art::memory_rgba8_texture::Stores;
+use records::frame;
 use records::frame::{Key, Record};
 use records::layout::Layout;
 use records::refusal::Refusal;
-use records::{frame, layout};
 
 // row of an image: 2 15 13 5. The record that the key names, where nothing refuses the row.
 fn row_record(l: Layout, stores: Stores<'_>, key: Key, row: u32) -> Result<Record, Refusal>
     ensures { MatchResult result (λ r. (read_refusal l (lent stores.entry) key row ≡ none) × (record_named l key ≡ r))
         (λ e. read_refusal l (lent stores.entry) key row ≡ some e) }
 {
-    if !layout::well_formed(l) {
-        return Err(Refusal::NotWellFormed);
-    }
+    let l = l.well_formed().ok_or(Refusal::NotWellFormed)?;
     let Some(r) = l.named(key) else {
         return Err(Refusal::NoSuchKey);
     };

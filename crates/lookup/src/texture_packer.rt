@@ -3,9 +3,8 @@
 ghost use Rattle.std.specs.Prelude.{◌≡◌, Ok, true, false, ◌&&◌, ◌-◌, ◌≤◌, ◌<◌, eqb};
 ghost use Rattle.std.proofs.Math.Option.{none};
 ghost use Rattle.art.specs.Stores.{lent, runs_past, InStore, BoxIn};
-ghost use Rattle.records.specs.Settings.{in_bounds};
 ghost use Rattle.records.specs.Records.{image_of, box_of, record_well_formed};
-ghost use Rattle.records.specs.Layouts.{standing, well_formed};
+ghost use Rattle.records.specs.Layouts.{standing};
 ghost use Rattle.lookup.specs.Zones.{zone, reaches, local, box_pixel, red, frame_pixel, pixel_at};
 ghost use Rattle.lookup.specs.Looking.{page_past, look_answer, looked, looked_numbers};
 
@@ -13,18 +12,18 @@ use art::memory_rgba8_texture::{Pixel, Stores};
 use art::{memory_rgba8_texture, sub_texture, texture};
 use geometry::rect::Rect;
 use geometry::spot::Turn;
+use records::frame;
 use records::frame::{Page, Record};
-use records::layout::Layout;
+use records::layout::{Layout, WellFormed};
 use records::refusal::Refusal;
-use records::texture_packer_config::Config;
-use records::{frame, layout};
+use records::texture_packer_config::{Config, InBounds};
 
-pub fn zone_of(c: Config, r: Record) -> Rect
-    requires { (in_bounds c ≡ true) × (record_well_formed c r ≡ true) }
-    ensures { result ≡ zone c r }
+pub fn zone_of(c: InBounds, r: Record) -> Rect
+    requires { record_well_formed c.config r ≡ true }
+    ensures { result ≡ zone c.config r }
 {
     let f = r.frame;
-    let e = c.extrusion;
+    let e = c.config.extrusion;
     // The zone's corner is not below 0.
     Rect {
         x: f.x.saturating_sub(e),
@@ -35,9 +34,9 @@ pub fn zone_of(c: Config, r: Record) -> Rect
 }
 
 #[tactic(auto, unfolding(crate::specs::Zones::reaches))]
-fn reaches_pixel(c: Config, page: Page, r: Record, x: u32, y: u32) -> bool
-    requires { (in_bounds c ≡ true) × (record_well_formed c r ≡ true) }
-    ensures { result ≡ reaches c page x y r }
+fn reaches_pixel(c: InBounds, page: Page, r: Record, x: u32, y: u32) -> bool
+    requires { record_well_formed c.config r ≡ true }
+    ensures { result ≡ reaches c.config page x y r }
 {
     let z = zone_of(c, r);
     (r.page == page) & z.contains_point(x, y)
@@ -99,23 +98,22 @@ fn on_page_past(stores: Stores<'_>, page: Page, r: Record) -> bool
 }
 
 // 5: whether any image on that page runs past its store.
-pub fn page_past(l: Layout, stores: Stores<'_>, page: Page) -> bool
-    requires { well_formed l ≡ true }
-    ensures { result ≡ page_past (lent stores.entry) page (standing l) }
+pub fn page_past(l: WellFormed<'_>, stores: Stores<'_>, page: Page) -> bool
+    ensures { result ≡ page_past (lent stores.entry) page (standing l.entry.layout.now) }
 {
     l.standing().iter().any(|r| on_page_past(stores, page, *r))
 }
 
 // The earliest frame whose zone holds the pixel shows it.
-fn pixel_at(l: Layout, stores: Stores<'_>, page: Page, x: u32, y: u32) -> Option<Pixel>
-    requires { (well_formed l ≡ true) × (page_past (lent stores) page (standing l) ≡ false) }
-    ensures { Ok result ≡ look_answer (pixel_at l (lent stores.entry) page x y) none }
+fn pixel_at(l: WellFormed<'_>, stores: Stores<'_>, page: Page, x: u32, y: u32) -> Option<Pixel>
+    requires { page_past (lent stores) page (standing l.layout.now) ≡ false }
+    ensures { Ok result ≡ look_answer (pixel_at l.entry.layout.now (lent stores.entry) page x y) none }
 {
-    let c = l.config;
+    let c = l.config();
     let standing = l.standing();
     for r in standing {
         if reaches_pixel(c, page, *r, x, y) {
-            return Some(frame_pixel(stores, c, *r, x, y));
+            return Some(frame_pixel(stores, c.config, *r, x, y));
         }
     }
     None
@@ -132,10 +130,8 @@ pub fn pixel(
     ensures value { result ≡ looked l (lent stores.entry) page x y }
     ensures result_value { looked_numbers result ≡ looked_numbers (looked l (lent stores.entry) page x y) }
 {
-    if !layout::well_formed(l) {
-        return Err(Refusal::NotWellFormed);
-    }
-    if layout::page_count(l) <= page.0 {
+    let l = l.well_formed().ok_or(Refusal::NotWellFormed)?;
+    if l.page_count() <= page.0 {
         return Err(Refusal::NoSuchPage);
     }
     if page_past(l, stores, page) {

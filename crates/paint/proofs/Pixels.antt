@@ -1,14 +1,33 @@
 -- Pixels by their number, and spans of them painted one after the other. Assumes nothing.
-use Prim.Native.Nat.{ℕ, ◌+◌, ◌*◌, ◌≤◌, ◌<◌}
+use Prim.Native.Nat.{ℕ, zero, suc, ◌+◌, ◌*◌, ◌≤◌, ◌<◌}
 use native.Mathlib.Omega.{arith}
 use native.Mathlib.Decide.{ℕ_discrete}
 use mathlib.Core.Path.{◌≡◌, refl, sym, ap, ◌∙◌, subst}
-use mathlib.Core.List.{List}
+use mathlib.Core.List.{List, [], ◌∷◌}
+use borrow.Rule.Slice.PartMut.{put_mid}
 use lib.ListN.{length, get_or, set, length-set}
 use lib.Seq.{get_or-set_same, get_or-set_other}
 use Rattle.art.specs.Stores.{pixel_from}
 use Rattle.art.specs.declared.memory_rgba8_texture.Pixel.{Pixel}
 use Rattle.paint.specs.Painting.{pixel_no, with_pixel, SpanPainted}
+
+-- four bytes written over a part are four bytes set, one after the other
+four_set : (l : List ℕ) (a r g b k : ℕ) → a + 4 ≤ length l → put_mid a 4 l (r ∷ g ∷ b ∷ k ∷ []) ≡ set (set (set (set l a r) (a + 1) g) (a + 2) b) (a + 3) k
+four_set [] a r g b k h = absurd (omega arith)
+four_set (w ∷ []) zero r g b k h = absurd (omega arith)
+four_set (w ∷ x ∷ []) zero r g b k h = absurd (omega arith)
+four_set (w ∷ x ∷ y ∷ []) zero r g b k h = absurd (omega arith)
+four_set (w ∷ x ∷ y ∷ z ∷ l) zero r g b k h = refl
+four_set (x ∷ l) (suc a) r g b k h =
+    let e1 : suc a + 1 ≡ suc (a + 1) = omega arith in
+    let e2 : suc a + 2 ≡ suc (a + 2) = omega arith in
+    let e3 : suc a + 3 ≡ suc (a + 3) = omega arith in
+    rw (e1, e2, e3) (ap (λ (m : List ℕ). x ∷ m) (four_set l a r g b k (omega arith)))
+
+pub pixel_put : (l : List ℕ) (i n : ℕ) (k : Pixel) (bytes : List ℕ) → n ≡ 4 → bytes ≡ k.r ∷ k.g ∷ k.b ∷ k.a ∷ [] → 4 * i + 4 ≤ length l
+    → put_mid (4 * i) n l bytes ≡ with_pixel l i k
+unfolding with_pixel
+pixel_put l i n k bytes e q h = rw (e, q) (four_set l (4 * i) k.r k.g k.b k.a h)
 
 module _ (l : List ℕ) (i : ℕ) (k : Pixel) where
   abbrev a : ℕ

@@ -19,16 +19,12 @@ use records::layout::Layout;
 use records::texture_packer_config::Config;
 
 // Pixel number i.
-#[tactic(auto, unfolding(crate::specs::Painting::with_pixel))]
 fn put_pixel(bytes: &mut [u8], i: usize, k: Pixel)
     requires { 4 * i + 4 ≤ length bytes.old }
     ensures { bytes.new ≡ with_pixel bytes.old i k }
 {
     let at = 4 * i;
-    bytes[at] = k.r;
-    bytes[at + 1] = k.g;
-    bytes[at + 2] = k.b;
-    bytes[at + 3] = k.a;
+    bytes[at..at + 4].copy_from_slice(&[k.r, k.g, k.b, k.a]);
 }
 
 fn fill(bytes: &mut [u8], pixels: usize, k: Pixel)

@@ -9,6 +9,7 @@ use std::alloc::AllocError;
 use std::rt::{Env, Files};
 use std::{fs, str};
 
+// The programs differ in a few words and in what they do with the pages: a match in each of those places says it more plainly than functions passed down.
 #[derive(Clone, Copy)]
 pub enum Program {
     Pack,

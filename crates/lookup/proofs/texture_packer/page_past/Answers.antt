@@ -11,5 +11,5 @@ pub returns : goal.returns
 returns c =
     let a = c.args in
     let s = lent a.stores in
-    any_from_yields_List (past_here s a.page) _ _ _ c.any.ensures.ran (YieldsList-from_slice (standing a.l) cc) (λ x b q k. search (rules, tests))
-    ∙ past_any s a.page (standing a.l)
+    any_from_yields_List (past_here s a.page) _ _ _ c.any.ensures.ran (YieldsList-from_slice (standing a.l.layout.now) cc) (λ x b q k. search (rules, tests))
+    ∙ past_any s a.page (standing a.l.layout.now)

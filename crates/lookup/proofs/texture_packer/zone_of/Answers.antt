@@ -6,10 +6,10 @@ use Rattle.lookup.proofs.texture_packer.zone_of.Goals as goal
 
 -- `zone_of` keeps the zone's full width and height where it begins at 0. Assumes nothing.
 inside : (c : Start) → Framed c.args.r
-inside c = framed _ _ (good _ _ c.requires.1)
+inside c = framed _ _ (good _ _ c.requires)
 
-few : (c : Start) → Bounded c.args.c
-few c = bounded _ c.requires.0
+few : (c : Start) → Bounded c.args.c.config
+few c = bounded _ c.args.c.tested
 
 pub overflow_mul-result : goal.overflow_mul-result
 overflow_mul-result c = omega (arith, (few (goal.at.overflow_mul-result c).Start).extrusion)
