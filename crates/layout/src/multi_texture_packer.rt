@@ -1,9 +1,9 @@
 // The operations that ask the placing rule, after multi_texture_packer.rs of texture_packer: ask, offer, withdraw. Each takes any layout, numbers
 // and bytes.
-ghost use Rattle.std.specs.Prelude.{◌≡◌, true, List, ◌≤◌, ◌<◌, ◌-◌, get_or, IfOk};
+ghost use Rattle.std.specs.Prelude.{◌≡◌, List, ◌≤◌, ◌<◌, ◌-◌, get_or, IfOk};
 ghost use Rattle.geometry.specs.Placing.{is_found};
 ghost use Rattle.art.specs.Stores.{lent};
-ghost use Rattle.records.specs.Settings.{in_bounds, blank_record};
+ghost use Rattle.records.specs.Settings.{blank_record};
 ghost use Rattle.records.specs.Refusals.{first_refusal};
 ghost use Rattle.records.specs.declared.frame.Record.{Record};
 ghost use Rattle.rules.specs.Placing.{spot_on, cells_on};
@@ -18,20 +18,20 @@ use geometry::rect::Size;
 use pages::Pages;
 use records::frame;
 use records::frame::{Key, Page};
-use records::layout::{Answered, Layout};
+use records::layout::{Answered, Layout, WellFormed};
 use records::refusal::Refusal;
-use records::texture_packer_config::Config;
+use records::texture_packer_config::InBounds;
 use rules::multi_texture_packer::{Asked, Offering, Withdrawing, Withdrawn};
 
 // The width of pages that the replay makes anew before it places anything.
 const ANY: u32 = 1;
 
 // The checks of ask past 2 and 3, and the page's answer.
-fn ask_on(skies: &Pages, c: Config, pages: usize, page: Page, size: Size) -> Asked
-    requires c_value { (in_bounds c ≡ true) × (pages ≤ 8) }
-    requires skies { (rs : List Record) × Skies c rs pages skies.now }
-    ensures { (rs : List Record) → Skies c rs pages skies.now →
-        result ≡ ask_answer (is_found (spot_on c (cells_on c rs page.0) size)) (first_refusal (ask_rest rs page size)) }
+fn ask_on(skies: &Pages, c: InBounds, pages: usize, page: Page, size: Size) -> Asked
+    requires c_value { pages ≤ 8 }
+    requires skies { (rs : List Record) × Skies c.config rs pages skies.now }
+    ensures { (rs : List Record) → Skies c.config rs pages skies.now →
+        result ≡ ask_answer (is_found (spot_on c.config (cells_on c.config rs page.0) size)) (first_refusal (ask_rest rs page size)) }
 {
     if offers::bad_size(size.w, size.h) {
         return Err(Refusal::BadSize);
@@ -42,7 +42,7 @@ fn ask_on(skies: &Pages, c: Config, pages: usize, page: Page, size: Size) -> Ask
     }
     let area = placing::canvas_of(c);
     let cell = placing::cell_size(c, size);
-    Ok(skies.can_pack_on(p, area, c.rotation, cell))
+    Ok(skies.can_pack_on(p, area, c.config.rotation, cell))
 }
 
 // ask: 2 3 4 11
@@ -52,7 +52,9 @@ pub fn ask(l: Layout, page: Page, size: Size) -> Asked
 {
     let mut skies = Pages::new(ANY);
     let pages = trust::trusted(l, &mut skies)?;
-    ask_on(&skies, l.config, pages, page, size)
+    // `trusted` asked whether it is well-formed, so that the proof has it here and below.
+    let tested = WellFormed { layout: &l };
+    ask_on(&skies, tested.config(), pages, page, size)
 }
 
 // offer: 2 3 4 5 6 7 8 9 10
@@ -62,7 +64,10 @@ pub fn offer(l: Layout, stores: Stores<'_>, key: Key, image: Image) -> Offering
 {
     let mut skies = Pages::new(ANY);
     match trust::trusted(l, &mut skies) {
-        Ok(pages) => { offers::offer_on(&mut skies, l, pages, stores, key, image) }
+        Ok(pages) => {
+            let tested = WellFormed { layout: &l };
+            offers::offer_on(&mut skies, tested, pages, stores, key, image)
+        }
         Err(refusal) => Answered {
             answer: Err(refusal),
             layout: l,
@@ -87,7 +92,8 @@ fn latest_key(l: Layout) -> Withdrawn
 {
     let mut skies = Pages::new(ANY);
     trust::trusted(l, &mut skies)?;
-    let standing = l.standing();
+    let tested = WellFormed { layout: &l };
+    let standing = tested.standing();
     let latest = standing.last().ok_or(Refusal::NothingStands)?;
     Ok(latest.key)
 }

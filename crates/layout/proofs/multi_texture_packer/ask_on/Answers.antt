@@ -18,11 +18,11 @@ fine : (c : After-can_pack_on) → bad_size c.args.size.w c.args.size.h ≡ fals
 fine c = sym c.bad_size.ensures ∙ c.if-bad_size.false
 
 found : (c : After-can_pack_on) (rs : List Record) → let a = c.args in
-    Skies a.c rs a.pages a.skies.now → is_found (spot_on a.c (cells_on a.c rs a.page.0) a.size) ≡ c.can_pack_on.result
+    Skies a.c.config rs a.pages a.skies.now → is_found (spot_on a.c.config (cells_on a.c.config rs a.page.0) a.size) ≡ c.can_pack_on.result
 found c rs sk =
     let a = c.args in
     let ea = c.canvas_of-area.ensures in
-    ask-found a.c rs a.page.0 a.size _ _ _ ea c.cell_size-cell.ensures.0 (c.can_pack_on.ensures (cells_on a.c rs) (length rs) (stands_as a.c _ _ _ _ ea sk.stands))
+    ask-found a.c.config rs a.page.0 a.size _ _ _ ea c.cell_size-cell.ensures.0 (c.can_pack_on.ensures (cells_on a.c.config rs) (length rs) (stands_as a.c.config _ _ _ _ ea sk.stands))
 
 pub returns-then-bad_size : goal.returns-then-bad_size
 returns-then-bad_size c rs sk = ask-size rs _ _ _ (sym c.bad_size.ensures ∙ c.if-bad_size.true)
@@ -31,11 +31,11 @@ pub returns-then-pages-p : goal.returns-then-pages-p
 returns-then-pages-p c rs sk = ask-page rs _ _ _ (sym c.bad_size.ensures ∙ c.if-bad_size.false) (omega (arith, sk.count, c.if-pages-p.true))
 
 pub cell_size-cell-requires : goal.cell_size-cell-requires
-cell_size-cell-requires c = (c.requires.c_value.0, sized _ _ (sym c.bad_size.ensures ∙ c.if-bad_size.false))
+cell_size-cell-requires c = sized _ _ (sym c.bad_size.ensures ∙ c.if-bad_size.false)
 
 pub can_pack_on-requires : goal.can_pack_on-requires
 can_pack_on-requires c =
-    record { by_index = (_, (_, stands_as c.args.c _ _ _ _ c.canvas_of-area.ensures c.requires.skies.1.stands)); p_bound = (omega (arith, c.requires.c_value.1, c.if-pages-p.false), c.cell_size-cell.ensures.1) }
+    record { by_index = (_, (_, stands_as c.args.c.config _ _ _ _ c.canvas_of-area.ensures c.requires.skies.1.stands)); p_bound = (omega (arith, c.requires.c_value, c.if-pages-p.false), c.cell_size-cell.ensures.1) }
 
 pub returns : goal.returns
 returns c rs sk =

@@ -25,8 +25,8 @@ stands c = stands_on _ _ _ _ c.in_ok-trusted.was
 long : (c : In_ok-trusted) → length c.args.l.records ≡ 256
 long c = c.well_formed.0.1.1.1.1.0.1.0.1
 
-pub standing-standing-requires : goal.standing-standing-requires
-standing-standing-requires c = (stands (goal.at.standing-standing-requires c).In_ok-trusted).formed
+pub invariant_of-tested : goal.invariant_of-tested
+invariant_of-tested c = record { tested = (stands (goal.at.invariant_of-tested c).In_ok-trusted).formed }
 
 pub returns-in_err-trusted-clause-is : goal.returns-in_err-trusted-clause-is
 returns-in_err-trusted-clause-is c =

@@ -18,8 +18,11 @@ told c = cc
 stands : (c : In-Ok) → Formed2 c.args.l c.trusted.result c.trusted.ensures.is
 stands c = stands_on _ _ _ _ (told c)
 
+pub invariant_of-tested : goal.invariant_of-tested
+invariant_of-tested c = record { tested = (stands (goal.at.invariant_of-tested c).In-Ok).formed }
+
 pub offer_on-requires : goal.offer_on-requires
-offer_on-requires c = ((stands (goal.at.offer_on-requires c).In-Ok).formed, c.trusted.ensures.skies _ (told (goal.at.offer_on-requires c).In-Ok))
+offer_on-requires c = c.trusted.ensures.skies _ (told (goal.at.offer_on-requires c).In-Ok)
 
 pub returns-in-Err : goal.returns-in-Err
 returns-in-Err c =
