@@ -150,10 +150,6 @@ sized_box c r k e g =
       few_h = omega (arith, i.in_h, g.whole_h_few);
     }
 
-pub box_cell : (c : Config) (r : Record) (k : Rect) (cell : Size) → k ≡ box_of r → cell ≡ cell_size c (record { w = k.w; h = k.h }) → cell ≡ cell_size c (size_of (box_of r))
-unfolding size_of
-box_cell c r k cell e h = h ∙ ap (λ (z : Rect). cell_size c (record { w = z.w; h = z.h })) e
-
 pub stands_as : (c : Config) (area : Size) (cells : ℕ → List Rect) (m : ℕ) (sky : Pages) → area ≡ canvas c
     → Stands (canvas c).w cells m sky → Stands area.w cells m sky
 stands_as c area cells m sky e st = rw e st
@@ -172,6 +168,10 @@ pub put_as : (c : Config) (size area cell : Size) (p m : ℕ) (cells : ℕ → L
 put_as c size area cell p m cells f sky ea ec h =
     subst (λ (z : Size). PutOn z c.rotation (cell_size c size) p m cells f sky) ea
     (subst (λ (z : Size). PutOn area c.rotation z p m cells f sky) ec h)
+
+pub put_box : (c : Config) (j k : Rect) (p m : ℕ) (cells : ℕ → List Rect) (f : Option Spot) (sky : Pages) → j ≡ k
+    → PutOn (canvas c) c.rotation (cell_size c (size_of j)) p m cells f sky → PutOn (canvas c) c.rotation (cell_size c (size_of k)) p m cells f sky
+put_box c j k p m cells f sky e = subst (λ (z : Rect). PutOn (canvas c) c.rotation (cell_size c (size_of z)) p m cells f sky) e
 
 -- ## one step of the replay
 

@@ -1,12 +1,16 @@
 // The canvas, cells, and the record of an image at a spot.
-ghost use Rattle.std.specs.Prelude.{◌≡◌, ◌≤◌};
+ghost use Rattle.std.specs.Prelude.{◌≡◌, List, ℕ, ◌≤◌, ◌<◌, length};
 ghost use Rattle.geometry.specs.Fits.{HasPixels};
-ghost use Rattle.rules.specs.Placing.{canvas, cell_size, record_for};
-ghost use Rattle.faithful.specs.Replay.{Sized, Near, stood};
+ghost use Rattle.records.specs.Records.{size_of};
+ghost use Rattle.records.specs.declared.frame.Record.{Record};
+ghost use Rattle.pages.specs.Pages.{PutOn};
+ghost use Rattle.rules.specs.Placing.{canvas, cell_size, cells_on, page_for, record_for};
+ghost use Rattle.faithful.specs.Replay.{Sized, Near, Skies, SomeSkies, stood};
 
 use geometry::rect::{Rect, Size};
 use geometry::spot;
 use geometry::spot::Spot;
+use pages::Pages;
 use records::frame::{Page, Record, Source};
 use records::refusal::Refusal;
 use records::texture_packer_config::InBounds;
@@ -32,6 +36,35 @@ pub fn cell_size(c: InBounds, s: Size) -> Size
         w: s.w + m,
         h: s.h + m,
     }
+}
+
+// The first page that has room for a whole image, else a new one.
+pub fn page_for(skies: &Pages, c: InBounds, pages: usize, whole: Size) -> usize
+    requires c_value { (pages ≤ 8) × Sized whole }
+    requires some_skies { SomeSkies c.config pages skies.now }
+    ensures { (rs : List Record) → Skies c.config rs pages skies.now → result ≡ page_for c.config rs whole }
+{
+    let area = canvas_of(c);
+    let cell = cell_size(c, whole);
+    skies.first_page(pages, area, c.config.rotation, cell)
+}
+
+// The spot that page p gives to what is kept of an image, and the pages with the cell there.
+pub fn pack(skies: &mut Pages, c: InBounds, p: usize, kept: Rect) -> Option<Spot>
+    requires c_value { (p < 8) × Sized (size_of kept) }
+    requires some_skies { (n : ℕ) × SomeSkies c.config n skies.old }
+    ensures { (rs : List Record) (n : ℕ) → Skies c.config rs n skies.old →
+        PutOn (canvas c.config) c.config.rotation (cell_size c.config (size_of kept)) p (length rs) (cells_on c.config rs) result skies.new }
+{
+    let area = canvas_of(c);
+    let cell = cell_size(
+        c,
+        Size {
+            w: kept.w,
+            h: kept.h,
+        },
+    );
+    skies.pack_on(p, area, c.config.rotation, cell)
 }
 
 // The record of an image at a spot. Where there is none the image is too large.

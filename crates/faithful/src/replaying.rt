@@ -8,7 +8,6 @@ ghost use Rattle.rules.specs.Faithful.{art_of, same_spot};
 ghost use Rattle.faithful.specs.Replay.{Skies, SomeSkies, Replayed, Ran};
 
 use crate::placing;
-use geometry::rect::Size;
 use geometry::spot::Spot;
 use pages::Pages;
 use records::frame;
@@ -35,22 +34,11 @@ fn replay_one(skies: &mut Pages, c: InBounds, pages: usize, r: Record) -> bool
     ensures { (rs : List Record) → Skies c.config rs pages skies.old →
         Replayed c.config rs r result skies.new }
 {
-    let area = placing::canvas_of(c);
-    let whole = placing::cell_size(c, frame::whole_of(r));
-    let rotation = c.config.rotation;
-    let p = skies.first_page(pages, area, rotation, whole);
+    let p = placing::page_for(skies, c, pages, frame::whole_of(r));
     if r.page.0 as usize != p {
         return false;
     }
-    let kept = frame::box_of(r);
-    let cell = placing::cell_size(
-        c,
-        Size {
-            w: kept.w,
-            h: kept.h,
-        },
-    );
-    let f = skies.pack_on(p, area, rotation, cell);
+    let f = placing::pack(skies, c, p, frame::box_of(r));
     same_spot(c, r, f)
 }
 

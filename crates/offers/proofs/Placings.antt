@@ -1,5 +1,5 @@
 -- One step of an offer on the skylines of the records so far. Assumes nothing.
-use Prim.Native.Nat.{ℕ, ◌-◌, ◌≤◌, ◌<◌}
+use Prim.Native.Nat.{ℕ, ◌≤◌, ◌<◌}
 use mathlib.Core.Path.{◌≡◌, refl, sym, ap, ◌∙◌, subst}
 use mathlib.Core.Bool.{true}
 use mathlib.Core.List.{List, [], ◌∷◌, ◌++◌}
@@ -30,13 +30,11 @@ use Rattle.rules.proofs.Pages.{cells-here, cells_other, cell_given}
 use Rattle.faithful.proofs.Replays.{length_snoc}
 use Rattle.faithful.proofs.Spots.{stood-none}
 
-pub near : (c : Config) (cells : List Rect) (size area cell : Size) (f : Option Spot) → in_bounds c ≡ true → area ≡ canvas c → f ≡ spot_for (height cells) area c.rotation cell → Near f
+pub near : (c : Config) (cells : List Rect) (cell : Size) (f : Option Spot) → in_bounds c ≡ true → f ≡ spot_for (height cells) (canvas c) c.rotation cell → Near f
 unfolding canvas
-near c cells size area cell f b ea e k q =
-    let h = chosen_fits (height cells) area c.rotation cell k (sym e ∙ q) in
-    let i = fits-inside (height cells) area c.rotation cell k h in
-    let w : area.w ≡ c.maxw = ap (λ (z : Size). z.w) ea in
-    let t : area.h ≡ c.maxh - 1 = ap (λ (z : Size). z.h) ea in
+near c cells cell f b e k q =
+    let h = chosen_fits (height cells) (canvas c) c.rotation cell k (sym e ∙ q) in
+    let i = fits-inside (height cells) (canvas c) c.rotation cell k h in
     let u = bounded c b in
     (omega (arith, i.across, u.wide-few), omega (arith, i.down, u.tall-few))
 

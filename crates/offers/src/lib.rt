@@ -105,17 +105,11 @@ fn place_art(skies: &mut Pages, c: InBounds, pages: usize, a: Art) -> Result<Rec
     ensures { (rs : List Record) → Skies c.config rs pages skies.old →
         Stepped c.config rs a result skies.new }
 {
-    let area = placing::canvas_of(c);
-    let rotation = c.config.rotation;
-    let w = a.whole;
-    let whole = placing::cell_size(c, w);
-    let p = skies.first_page(pages, area, rotation, whole);
+    let p = placing::page_for(skies, c, pages, a.whole);
     if c.config.pages as usize <= p {
         return Err(Refusal::PageLimit);
     }
-    let k = a.kept;
-    let cell = placing::cell_size(c, Size { w: k.w, h: k.h });
-    let f = skies.pack_on(p, area, rotation, cell);
+    let f = placing::pack(skies, c, p, a.kept);
     placing::record_for(c, a, p as u32, f)
 }
 
