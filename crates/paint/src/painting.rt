@@ -1,9 +1,8 @@
 // Rows of a page, painted: the background, then the page's frames from the last accepted to the first, so that the earliest stays on top.
 ghost use Rattle.std.specs.Prelude.{◌≡◌, true, false, List, ◌∷◌, ◌+◌, ◌*◌, ◌-◌, ◌≤◌, min, max, length, eqb};
 ghost use Rattle.art.specs.Stores.{lent, InStore};
-ghost use Rattle.records.specs.Settings.{in_bounds};
 ghost use Rattle.records.specs.Records.{image_of, record_well_formed};
-ghost use Rattle.records.specs.Layouts.{standing, well_formed};
+ghost use Rattle.records.specs.Layouts.{standing};
 ghost use Rattle.records.specs.declared.frame.Record.{Record};
 ghost use Rattle.lookup.specs.Zones.{zone};
 ghost use Rattle.lookup.specs.Looking.{page_past};
@@ -15,8 +14,8 @@ use crate::background::Background;
 use art::memory_rgba8_texture::{Pixel, Stores};
 use lookup::texture_packer;
 use records::frame::{Page, Record};
-use records::layout::Layout;
-use records::texture_packer_config::Config;
+use records::layout::WellFormed;
+use records::texture_packer_config::{Config, InBounds};
 
 // Pixel number i.
 fn put_pixel(bytes: &mut [u8], i: usize, k: Pixel)
@@ -63,17 +62,17 @@ fn paint_span(
 fn paint_frame(
     bytes: &mut [u8],
     stores: Stores<'_>,
-    c: Config,
+    c: InBounds,
     g: Background,
     r: Record,
     w: u32,
     first: u32,
     rows: u32,
 )
-    requires in_store { InStore (lent stores) (image_of r) × (in_bounds c ≡ true) × (record_well_formed c r ≡ true) }
+    requires in_store { InStore (lent stores) (image_of r) × (record_well_formed c.config r ≡ true) }
     requires rows_bound { (first + rows ≤ 6271) × (length bytes.old ≡ 4 * (w * rows)) }
-    ensures { ZonePainted (composed_frame c (lent stores.entry) g r)
-        (zone c r) w first rows bytes.old bytes.new }
+    ensures { ZonePainted (composed_frame c.config (lent stores.entry) g r)
+        (zone c.config r) w first rows bytes.old bytes.new }
 {
     let z = texture_packer::zone_of(c, r);
     let end = w.min(z.x + z.w);
@@ -81,14 +80,14 @@ fn paint_frame(
     let stop = (first + rows).min(z.y + z.h);
     for y in start..stop {
         let base = (y - first) as usize * w as usize;
-        paint_span(bytes, stores, c, g, r, y, base, z.x, end);
+        paint_span(bytes, stores, c.config, g, r, y, base, z.x, end);
     }
 }
 
 fn paint_record(
     bytes: &mut [u8],
     stores: Stores<'_>,
-    c: Config,
+    c: InBounds,
     g: Background,
     page: Page,
     r: Record,
@@ -96,10 +95,10 @@ fn paint_record(
     first: u32,
     rows: u32,
 )
-    requires in_store { (eqb r.page.0 page.0 ≡ true → InStore (lent stores) (image_of r)) × (in_bounds c ≡ true) × (record_well_formed c r ≡ true) }
+    requires in_store { (eqb r.page.0 page.0 ≡ true → InStore (lent stores) (image_of r)) × (record_well_formed c.config r ≡ true) }
     requires rows_bound { (first + rows ≤ 6271) × (length bytes.old ≡ 4 * (w * rows)) }
-    ensures { (rs : List Record) → Shows (composed_among c (lent stores.entry) page g rs) w first rows bytes.old →
-        Shows (composed_among c (lent stores.entry) page g (r ∷ rs)) w first rows bytes.new }
+    ensures { (rs : List Record) → Shows (composed_among c.config (lent stores.entry) page g rs) w first rows bytes.old →
+        Shows (composed_among c.config (lent stores.entry) page g (r ∷ rs)) w first rows bytes.new }
 {
     if r.page == page {
         paint_frame(bytes, stores, c, g, r, w, first, rows);
@@ -109,7 +108,7 @@ fn paint_record(
 // `rows` rows of a page that is w pixels wide, from row `first` on.
 pub fn paint_band(
     bytes: &mut [u8],
-    l: Layout,
+    l: WellFormed<'_>,
     stores: Stores<'_>,
     page: Page,
     g: Background,
@@ -117,11 +116,11 @@ pub fn paint_band(
     first: u32,
     rows: u32,
 )
-    requires l_value { (well_formed l ≡ true) × (page_past (lent stores) page (standing l) ≡ false) }
+    requires l_value { page_past (lent stores) page (standing l.layout.now) ≡ false }
     requires rows_bound { (first + rows ≤ 6271) × (w ≤ 6271) × (length bytes.old ≡ 4 * (w * rows)) }
-    ensures { bytes.new ≡ picture (composed_at l (lent stores.entry) page g) w first rows }
+    ensures { bytes.new ≡ picture (composed_at l.entry.layout.now (lent stores.entry) page g) w first rows }
 {
-    let c = l.config;
+    let c = l.config();
     let k = background::without_pixel(g);
     fill(bytes, w as usize * rows as usize, k);
     for r in l.standing().iter().rev() {

@@ -9,4 +9,4 @@ use Rattle.paint.proofs.painting.paint_band.Given as goal
 abbrev pub invariant-loop-r : goal.invariant-loop-r
 invariant-loop-r l =
     let rest = l.r-iterator.iter.rest.now in
-    Left l.fn.l rest × Shows (composed_among l.c (lent l.stores) l.page l.g (drop (length rest) (standing l.fn.l))) l.w l.first l.rows l.bytes
+    Left l.fn.l.layout.now rest × Shows (composed_among l.c.config (lent l.stores) l.page l.g (drop (length rest) (standing l.fn.l.layout.now))) l.w l.first l.rows l.bytes

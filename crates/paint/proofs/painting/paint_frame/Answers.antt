@@ -10,7 +10,7 @@ use Rattle.paint.proofs.painting.paint_frame.Goals as goal
 -- the zone that the call gave
 few : (c : After-zone_of-z) → ZoneFew c.zone_of-z.result
 few c =
-    subst ZoneFew (sym c.zone_of-z.ensures) (zone-few c.args.c c.args.r c.requires.in_store.1 c.requires.in_store.2)
+    subst ZoneFew (sym c.zone_of-z.ensures) (zone-few c.args.c.config c.args.r c.args.c.tested c.requires.in_store.1)
 
 -- the first row is the band's or the zone's; the end is the band's or the zone's, on either axis
 starts : (first top y : ℕ) → y ≡ max first top → (y ≤ first) ⊎ (y ≤ top)

@@ -4,14 +4,14 @@ use Rattle.paint.proofs.painting.paint_record.Goals as goal
 
 pub paint_frame-requires : goal.paint_frame-requires
 paint_frame-requires c =
-    record { in_store = (c.requires.in_store.0 (sym c.eq.ensures ∙ c.if-eq.true), c.requires.in_store.1, c.requires.in_store.2); rows_bound = c.requires.rows_bound }
+    record { in_store = (c.requires.in_store.0 (sym c.eq.ensures ∙ c.if-eq.true), c.requires.in_store.1); rows_bound = c.requires.rows_bound }
 
 pub returns-then-eq : goal.returns-then-eq
 returns-then-eq c =
     λ rs shown.
-    shows_more c.args.c _ c.args.page c.args.g c.args.r rs _ _ _ _ _ (sym c.eq.ensures ∙ c.if-eq.true) shown c.paint_frame.ensures
+    shows_more c.args.c.config _ c.args.page c.args.g c.args.r rs _ _ _ _ _ (sym c.eq.ensures ∙ c.if-eq.true) shown c.paint_frame.ensures
 
 pub returns-else-eq : goal.returns-else-eq
 returns-else-eq c =
     λ rs shown.
-    shows_past c.args.c _ c.args.page c.args.g c.args.r rs _ _ _ _ (sym c.eq.ensures ∙ c.if-eq.false) shown
+    shows_past c.args.c.config _ c.args.page c.args.g c.args.r rs _ _ _ _ (sym c.eq.ensures ∙ c.if-eq.false) shown
