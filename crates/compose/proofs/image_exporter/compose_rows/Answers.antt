@@ -1,6 +1,6 @@
 use Prim.Native.Nat.{◌*◌}
 use native.Mathlib.Omega.{arith}
-use mathlib.Core.Path.{◌≡◌, sym, ap, ◌∙◌, subst}
+use mathlib.Core.Path.{◌≡◌, sym, ap, ◌∙◌}
 use Rattle.std.proofs.Common.{rules, Err}
 use Rattle.geometry.specs.declared.rect.Size.{Size}
 use Rattle.records.specs.Layouts.{size_of_page}
@@ -25,7 +25,7 @@ pub paint_band-requires : goal.paint_band-requires
 paint_band-requires c =
     let t = none_refuses _ _ _ _ _ _ c.in_ok-l.ensures.0 in
     let a = c.args in
-    let z = sized c in
+    let z = sized (goal.at.paint_band-requires c).After-size_of_page-s in
     let w = ap (λ (k : Size). k.w) z in
     let wide = side_w a.l t.formed a.page in
     let tall = side_h a.l t.formed a.page in
