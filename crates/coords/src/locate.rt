@@ -5,7 +5,6 @@ ghost use Rattle.coords.specs.Parts.{Countable, texel_answer, requested};
 
 use geometry::rect::{Rect, Size};
 use records::frame::Key;
-use records::layout;
 use records::layout::Layout;
 use records::refusal::Refusal;
 
@@ -108,12 +107,10 @@ pub fn coordinates(l: Layout, key: Key, request: Request) -> Located
     ensures value { result ≡ located l key request }
     ensures result_value { located_numbers result ≡ located_numbers (located l key request) }
 {
-    if !layout::well_formed(l) {
-        return Err(Refusal::NotWellFormed);
-    }
+    let l = l.well_formed().ok_or(Refusal::NotWellFormed)?;
     let Some(r) = l.named(key) else {
         return Err(Refusal::NoSuchKey);
     };
-    let s = layout::size_of_page(l, r.page);
+    let s = l.size_of_page(r.page);
     answer_request(request, r.frame, s)
 }
