@@ -46,13 +46,13 @@ refused-some none r e = absurd cc
 refused-some (some q) r e = let z : q ≡ r = cc in ap some z
 
 module _ (l : Layout) (s : Stores) (p : Page) (first n len : ℕ) where
-  pub band_refuses : {r : Refusal} → First (band_row l s p first n len) r → Err r ≡ compose_answer (band_refusal l s p first n len)
+  pub band_refuses : {r : Refusal} → First (band_row l s p first n len) r → band_refusal l s p first n len ≡ some r
   unfolding band_refusal
-  band_refuses h = sym (ap compose_answer (first-is _ h))
+  band_refuses h = first-is _ h
 
-  pub band-passes : Nones (band_row l s p first n len) → Ok tt ≡ compose_answer (band_refusal l s p first n len)
+  pub band-passes : Nones (band_row l s p first n len) → band_refusal l s p first n len ≡ none
   unfolding band_refusal
-  band-passes h = sym (ap compose_answer (holds-none _ h))
+  band-passes h = holds-none _ h
 
   -- what no check refuses
   pub record Unrefused : Type 0 where
@@ -89,28 +89,15 @@ module _ (l : Layout) (s : Stores) (p : Page) (first n len : ℕ) where
       some_of : (k : ℕ) → (k ≡ 0 → ⊥) → 1 ≤ k
       some_of k h = omega arith
 
-  pub done_unrefused : compose_answer (band_refusal l s p first n len) ≡ Ok tt → Unrefused
-  done_unrefused e = none_refuses (done_none _ e)
-
 -- the operation's answer and buffer, once the row's answer is known
 module _ (l : Layout) (s : Stores) (p : Page) (g : Background) (first n : ℕ) (old : List ℕ) where
-  pub answer-is : {a : Result ⊤ Refusal} → a ≡ compose_answer (band_refusal l s p first n (length old)) → a ≡ composed_answer l s p first n old
-  unfolding composed_answer
-  answer-is e = e
-
   pub kept_of_some : (r : Refusal) → band_refusal l s p first n (length old) ≡ some r → old ≡ composed_buffer l s p g first n old
   unfolding composed_buffer
   kept_of_some r e = sym (ap (compose_buffer old (band l s p g first n)) e)
 
-  pub buffer_kept : {r : Refusal} → compose_answer (band_refusal l s p first n (length old)) ≡ Err r → old ≡ composed_buffer l s p g first n old
-  buffer_kept {r} e = kept_of_some r (refused-some (band_refusal l s p first n (length old)) r e)
-
   pub buffer_of_done : band_refusal l s p first n (length old) ≡ none → band l s p g first n ≡ composed_buffer l s p g first n old
   unfolding composed_buffer
   buffer_of_done e = sym (ap (compose_buffer old (band l s p g first n)) e)
-
-  pub buffer_composed : compose_answer (band_refusal l s p first n (length old)) ≡ Ok tt → band l s p g first n ≡ composed_buffer l s p g first n old
-  buffer_composed e = buffer_of_done (done_none (band_refusal l s p first n (length old)) e)
 
 -- rows that 13 lets pass are no more than the page has
 pub rows_few : (z : Size) (first n m : ℕ) → bad_rows z first n ≡ false → z.h ≤ m → n ≤ m
@@ -122,21 +109,6 @@ pub band-is : (l : Layout) (s : Stores) (p : Page) (g : Background) (first n : �
     → picture (composed_at l s p g) z.w first n ≡ band l s p g first n
 unfolding band
 band-is l s p g first n z e = ap (λ (k : Size). picture (composed_at l s p g) k.w first n) e
-
--- ## check rows
-
-module _ (l : Layout) (s : Stores) (p : Page) (g : Background) (first n : ℕ) (shown : List ℕ) where
-  pub check_refused : {r : Refusal} → compose_answer (band_refusal l s p first n (length shown)) ≡ Err r → Err r ≡ checked_rows l s p g first n shown
-  unfolding checked_rows
-  check_refused {r} e =
-      sym (ap (check_answer (compared (composed_at l s p g) (size_of_page l p).w first n shown)) (refused-some (band_refusal l s p first n (length shown)) r e))
-
-  pub check_compared : (z : Size) → z ≡ size_of_page l p → compose_answer (band_refusal l s p first n (length shown)) ≡ Ok tt
-      → Ok (compared (composed_at l s p g) z.w first n shown) ≡ checked_rows l s p g first n shown
-  unfolding checked_rows
-  check_compared z q e =
-      ap (λ (k : Size). Ok (compared (composed_at l s p g) k.w first n shown)) q
-      ∙ sym (ap (check_answer (compared (composed_at l s p g) (size_of_page l p).w first n shown)) (done_none (band_refusal l s p first n (length shown)) e))
 
 -- ## the row itself
 

@@ -1,9 +1,9 @@
 // Check rows: the auditor's check. It reads the lent page bytes themselves, and writes nothing.
-ghost use Rattle.std.specs.Prelude.{◌≡◌, true, false, ℕ, ◌+◌, ◌*◌, ◌<◌, ◌≤◌, length, MatchOption};
+ghost use Rattle.std.specs.Prelude.{◌≡◌, false, ℕ, ◌+◌, ◌*◌, ◌<◌, ◌≤◌, length, MatchOption};
 ghost use Rattle.art.specs.Stores.{lent, pixel_from};
 ghost use Rattle.art.specs.declared.memory_rgba8_texture.Pixel.{Pixel};
 ghost use Rattle.art.specs.Trimming.{first_seen};
-ghost use Rattle.records.specs.Layouts.{standing, well_formed};
+ghost use Rattle.records.specs.Layouts.{standing};
 ghost use Rattle.lookup.specs.Looking.{page_past};
 ghost use Rattle.paint.specs.Pictures.{composed_at};
 ghost use Rattle.paint.specs.Painting.{Shows};
@@ -16,8 +16,7 @@ use art::memory_rgba8_texture::Stores;
 use paint::background::Background;
 use paint::painting;
 use records::frame::Page;
-use records::layout;
-use records::layout::Layout;
+use records::layout::{Layout, WellFormed};
 use records::refusal::Refusal;
 
 // Pixel number i of the one is pixel number j of the other.
@@ -61,7 +60,7 @@ fn compare_rows(shown: &[u8], wanted: &[u8], w: u32, first: u32, rows: u32) -> O
 // The lent rows against the page's from `first` on, which are composed in `wanted`.
 fn check_part(
     wanted: &mut [u8],
-    l: Layout,
+    l: WellFormed<'_>,
     stores: Stores<'_>,
     page: Page,
     background: Background,
@@ -70,9 +69,9 @@ fn check_part(
     rows: u32,
     shown: &[u8],
 ) -> Option<(u32, u32)>
-    requires l_value { (well_formed l ≡ true) × (page_past (lent stores) page (standing l) ≡ false) }
+    requires l_value { page_past (lent stores) page (standing l.layout.now) ≡ false }
     requires w_bound { (w ≤ 6271) × (first + rows ≤ 6271) × (length wanted.old ≡ 4 * (w * rows)) × (length shown.now ≡ 4 * (w * rows)) }
-    ensures { result ≡ compared (composed_at l (lent stores.entry) page background) w first rows shown.now }
+    ensures { result ≡ compared (composed_at l.entry.layout.now (lent stores.entry) page background) w first rows shown.now }
 {
     painting::paint_band(wanted, l, stores, page, background, w, first, rows);
     compare_rows(shown, wanted, w, first, rows)
@@ -89,7 +88,7 @@ fn rows_at_once(w: u32, rows: u32) -> u32
 // The lent rows, some at a time, against the page's rows from `first` on.
 fn check_band(
     room: &mut [u8],
-    l: Layout,
+    l: WellFormed<'_>,
     stores: Stores<'_>,
     page: Page,
     background: Background,
@@ -98,9 +97,9 @@ fn check_band(
     rows: u32,
     shown: &[u8],
 ) -> Option<(u32, u32)>
-    requires l_value { (well_formed l ≡ true) × (page_past (lent stores) page (standing l) ≡ false) }
+    requires l_value { page_past (lent stores) page (standing l.layout.now) ≡ false }
     requires le_w { (1 ≤ w) × (w ≤ 6271) × (first + rows ≤ 6271) × (length room.old ≡ 25084) × (length shown.now ≡ 4 * (w * rows)) }
-    ensures { result ≡ compared (composed_at l (lent stores.entry) page background) w first rows shown.now }
+    ensures { result ≡ compared (composed_at l.entry.layout.now (lent stores.entry) page background) w first rows shown.now }
 {
     // By hand: `chunks` would give the lent bytes of a part, and its first row and its count of rows would be worked out of them again.
     let mut v: u32 = 0;
@@ -146,8 +145,8 @@ pub fn check_rows(
     ensures value { result ≡ checked_rows l (lent stores.entry) page background first rows shown.now }
     ensures result_value { checked_numbers result ≡ checked_numbers (checked_rows l (lent stores.entry) page background first rows shown.now) }
 {
-    image_exporter::band_answer(l, stores, page, first, rows, shown.len())?;
-    let s = layout::size_of_page(l, page);
+    let l = image_exporter::band_answer(&l, stores, page, first, rows, shown.len())?;
+    let s = l.size_of_page(page);
     let mut room = new_room();
     let off = check_band(
         &mut room, l, stores, page, background, s.w, first, rows, shown,

@@ -1,8 +1,9 @@
 // Compose rows, after image_exporter.rs of texture_packer. There a whole page is made in memory; here any rows of it, into a buffer that the
 // caller lends.
-ghost use Rattle.std.specs.Prelude.{◌≡◌, ◌≤◌};
+ghost use Rattle.std.specs.Prelude.{◌≡◌, MatchResult, ◌≤◌};
+ghost use Rattle.std.proofs.Math.Option.{none, some};
 ghost use Rattle.art.specs.Stores.{lent};
-ghost use Rattle.compose.specs.Composing.{empty_page, bad_rows, bad_length, compose_answer, band_refusal, composed_answer, composed_buffer, composed_numbers};
+ghost use Rattle.compose.specs.Composing.{empty_page, bad_rows, bad_length, band_refusal, composed_answer, composed_buffer, composed_numbers};
 
 use art::memory_rgba8_texture::Stores;
 use geometry::rect::Size;
@@ -10,8 +11,7 @@ use lookup::texture_packer;
 use paint::background::Background;
 use paint::painting;
 use records::frame::Page;
-use records::layout;
-use records::layout::Layout;
+use records::layout::{Layout, WellFormed};
 use records::refusal::Refusal;
 
 #[tactic(auto, unfolding(crate::specs::Composing::empty_page))]
@@ -38,24 +38,23 @@ fn bad_length(s: Size, rows: u32, len: usize) -> bool
     len != 4 * (s.w as usize * rows as usize)
 }
 
-// compose rows, check rows: 2 11 12 13 14 5
-pub fn band_answer(
-    l: Layout,
+// compose rows, check rows: 2 11 12 13 14 5. The layout, tested, where nothing refuses the rows.
+pub fn band_answer<'a>(
+    l: &'a Layout,
     stores: Stores<'_>,
     page: Page,
     first: u32,
     rows: u32,
     len: usize,
-) -> Result<(), Refusal>
-    ensures { result ≡ compose_answer (band_refusal l (lent stores.entry) page first rows len) }
+) -> Result<WellFormed<'a>, Refusal>
+    ensures { MatchResult result (λ t. (band_refusal l.now (lent stores.entry) page first rows len ≡ none) × (t.layout.now ≡ l.now))
+        (λ r. band_refusal l.now (lent stores.entry) page first rows len ≡ some r) }
 {
-    if !layout::well_formed(l) {
-        return Err(Refusal::NotWellFormed);
-    }
-    if layout::page_count(l) <= page.0 {
+    let l = l.well_formed().ok_or(Refusal::NotWellFormed)?;
+    if l.page_count() <= page.0 {
         return Err(Refusal::NoSuchPage);
     }
-    let s = layout::size_of_page(l, page);
+    let s = l.size_of_page(page);
     if empty_page(s) {
         return Err(Refusal::EmptyPage);
     }
@@ -68,7 +67,7 @@ pub fn band_answer(
     if texture_packer::page_past(l, stores, page) {
         return Err(Refusal::PastStore);
     }
-    Ok(())
+    Ok(l)
 }
 
 // compose rows: the background is none, or a colour with an optional threshold and the discard switch. Nothing is written where it refuses.
@@ -85,8 +84,8 @@ pub fn compose_rows(
     ensures result_value { composed_numbers result ≡ composed_numbers (composed_answer l (lent stores.entry) page first rows buffer.old) }
     ensures buffer_after { buffer.new ≡ composed_buffer l (lent stores.entry) page background first rows buffer.old }
 {
-    band_answer(l, stores, page, first, rows, buffer.len())?;
-    let s = layout::size_of_page(l, page);
+    let l = band_answer(&l, stores, page, first, rows, buffer.len())?;
+    let s = l.size_of_page(page);
     painting::paint_band(buffer, l, stores, page, background, s.w, first, rows);
     Ok(())
 }

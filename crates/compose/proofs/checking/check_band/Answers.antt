@@ -121,14 +121,14 @@ answered : (c : After-check_part) →
     let a = c.args in
     let v = c.loop-v.v in
     let n = c.rows_at_once-n.result in
-    c.check_part.result ≡ compared (composed_at a.l (lent a.stores) a.page a.background) a.w (a.first + v) n (take (4 * (n * a.w)) (drop (4 * (v * a.w)) a.shown.now))
+    c.check_part.result ≡ compared (composed_at a.l.layout.now (lent a.stores) a.page a.background) a.w (a.first + v) n (take (4 * (n * a.w)) (drop (4 * (v * a.w)) a.shown.now))
 answered c =
     let a = c.args in
     let v = c.loop-v.v in
     let n = c.rows_at_once-n.result in
     let m : 4 * (v * a.w) + 4 * (n * a.w) - 4 * (v * a.w) ≡ 4 * (n * a.w) = omega arith in
     c.check_part.ensures
-    ∙ ap (λ (k : ℕ). compared (composed_at a.l (lent a.stores) a.page a.background) a.w (a.first + v) n (take k (drop (4 * (v * a.w)) a.shown.now))) m
+    ∙ ap (λ (k : ℕ). compared (composed_at a.l.layout.now (lent a.stores) a.page a.background) a.w (a.first + v) n (take k (drop (4 * (v * a.w)) a.shown.now))) m
 
 -- the room is as long as it was
 kept : (c : After-check_part) → 4 * (c.rows_at_once-n.result * c.args.w) ≤ length c.loop-v.room
