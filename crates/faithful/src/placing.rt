@@ -1,4 +1,4 @@
-// The canvas, cells, and the record of an image at a spot.
+// The canvas, cells, the page and the spot that an image gets, and its record there.
 ghost use Rattle.std.specs.Prelude.{◌≡◌, List, ℕ, ◌≤◌, ◌<◌, length};
 ghost use Rattle.geometry.specs.Fits.{HasPixels};
 ghost use Rattle.records.specs.Records.{size_of};

@@ -1,4 +1,4 @@
-// A layout, by value: bounds and blanks, well-formed, the page count, keys; and the operations that need no more: open, page size.
+// A layout: blanks, well-formed, the page count, keys; and the operations that need no more: open, page size.
 ghost use Rattle.std.specs.Prelude.{◌≡◌, MatchOption, true, false, ◌+◌, ◌≤◌, ◌<◌, max};
 ghost use Rattle.std.proofs.Math.Option.{none, some};
 ghost use Rattle.geometry.specs.Words.{all};
@@ -13,6 +13,7 @@ use crate::texture_packer_config::{Config, InBounds};
 use crate::{frame, texture_packer_config};
 use geometry::rect::Size;
 
+// Fixed memory, no heap: 256 places, of which the first `count` stand.
 #[derive(Clone, Copy)]
 pub struct Layout {
     pub config: Config,

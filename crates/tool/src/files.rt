@@ -64,10 +64,8 @@ pub fn read_file<R: Files + AllocGlobal>(
     Ok(bytes)
 }
 
-// The longest name of a page's file. No system call takes a path that is so long.
-const LONGEST: usize = 4096;
-
-// FOLDER/page-N and an ending. A longer name is cut, which is as far as the programs say it.
+// FOLDER/page-N and an ending. A longer name is cut, which is as far as the programs say it; no system call takes a path that is so long. FOLDER is an
+// argument and no longer than that, and what follows it is ASCII, so the cut never falls inside a character.
 pub fn page_path(
     alloc: Global,
     folder: &str,
@@ -76,7 +74,7 @@ pub fn page_path(
 ) -> Result<String, AllocError> {
     let number = page.0;
     let path = format!(in alloc; "{folder}/page-{number}{ending}")?;
-    match path.as_str().get(..LONGEST) {
+    match path.as_str().get(..system::LONGEST) {
         Some(cut) => String::from_str(alloc, cut),
         None => Ok(path),
     }

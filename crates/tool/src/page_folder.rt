@@ -128,7 +128,8 @@ impl PageFolder<'_> {
         }
         self.each_page(|page, sheet| {
             if sheet.is_some() {
-                self.remove(rt, page, FRESH)?;
+                // One that cannot be named for want of memory does not keep the others.
+                let _ = self.remove(rt, page, FRESH);
             }
             Ok(true)
         })?;

@@ -40,7 +40,7 @@ pub fn close_written<F: OpenFile + Drop>(file: F) -> io::Result<()> {
 }
 
 // The longest argument that is taken, as long as the longest path of a system call.
-const LONGEST: usize = 4096;
+pub const LONGEST: usize = 4096;
 
 // The arguments, with the program's own name: bytes, which need not be text. One that is longer than the longest is an empty name, which no file has.
 pub fn arguments<R: Env + AllocGlobal>(rt: &R) -> Result<Vec<Vec<u8>>, AllocError> {
