@@ -1,6 +1,9 @@
-// The commands, by the word that names them.
+// The commands, by the word that names them, and the words that they take.
 ghost use Rattle.std.specs.Prelude.{◌≡◌, ◌≤◌};
-ghost use Rattle.commands.specs.Taking.{command_number, words_of, Names};
+ghost use Rattle.commands.specs.Reading.{word};
+ghost use Rattle.commands.specs.Taking.{command_number, words_of, Names, There};
+
+use wire::words;
 
 #[derive(Clone, Copy, PartialEq, Eq)]
 pub enum Command {
@@ -63,5 +66,23 @@ impl Command {
             Command::CheckRows => 10,
             Command::Open => 11,
         }
+    }
+}
+
+// A command at a byte of the script, with the N words that it takes. Whoever makes one proves that they are there.
+#[derive(Clone, Copy)]
+pub struct Words<'a, const N: usize> {
+    pub script: &'a [u8],
+    pub at: usize,
+    pub ghost there: { There script.now at N },
+}
+
+impl<'a, const N: usize> Words<'a, N> {
+    // Word number i; 0 names the command.
+    pub fn word(self, i: usize) -> u32
+        requires { i ≤ N }
+        ensures { result ≡ word self.entry.script.now self.entry.at i }
+    {
+        words::word_at(self.script, self.at + 4 * i)
     }
 }

@@ -1,5 +1,4 @@
-// The commands whose answer is words alone. Each reads its words from byte `at` of the script on, which names the command; `run` has asked that
-// they are there.
+// The commands whose answer is words alone. Each takes the words that it reads.
 #![tactic(auto)]
 
 ghost use Rattle.std.specs.Prelude.{◌≡◌, ◌+◌, ◌≤◌, length};
@@ -9,6 +8,7 @@ ghost use Rattle.art.specs.Stores.{lent};
 ghost use Rattle.commands.specs.Reading.{config_at, request_of, colour_of, threshold_of, background_at};
 ghost use Rattle.commands.specs.Telling.{open_told, ask_told, offer_told, withdraw_told, size_told, pixel_told, locate_told, Tells};
 
+use crate::command::Words;
 use art::memory_rgba8_texture::{Image, Pixel, Stores};
 use coords::locate;
 use coords::locate::Request;
@@ -21,26 +21,25 @@ use records::layout as layouts;
 use records::layout::{Answered, Layout};
 use records::texture_packer_config::Config;
 use wire::answers::Answer;
-use wire::{answers, fields, words};
+use wire::{answers, fields};
 
 pub mod command;
 
-fn config_at(script: &[u8], at: usize) -> Config
-    requires { at + 48 ≤ length script.now }
-    ensures { result ≡ config_at script.now at }
+fn config_at(words: Words<'_, 11>) -> Config
+    ensures { result ≡ config_at words.entry.script.now words.entry.at }
 {
-    let rotation = fields::is_on(words::word_at(script, at + 32));
-    let trim = fields::is_on(words::word_at(script, at + 36));
-    let outlines = fields::is_on(words::word_at(script, at + 40));
-    let forced = fields::is_on(words::word_at(script, at + 44));
+    let rotation = fields::is_on(words.word(8));
+    let trim = fields::is_on(words.word(9));
+    let outlines = fields::is_on(words.word(10));
+    let forced = fields::is_on(words.word(11));
     Config {
-        maxw: words::word_at(script, at + 4),
-        maxh: words::word_at(script, at + 8),
-        padding: words::word_at(script, at + 12),
-        border: words::word_at(script, at + 16),
-        extrusion: words::word_at(script, at + 20),
-        pages: words::word_at(script, at + 24),
-        images: words::word_at(script, at + 28),
+        maxw: words.word(1),
+        maxh: words.word(2),
+        padding: words.word(3),
+        border: words.word(4),
+        extrusion: words.word(5),
+        pages: words.word(6),
+        images: words.word(7),
         rotation,
         trim,
         outlines,
@@ -48,37 +47,34 @@ fn config_at(script: &[u8], at: usize) -> Config
     }
 }
 
-pub fn open(script: &[u8], at: usize) -> Answered<Answer>
-    requires { at + 48 ≤ length script.now }
-    ensures { Tells (open_told script.now at) result }
+pub fn open(words: Words<'_, 11>) -> Answered<Answer>
+    ensures { Tells (open_told words.entry.script.now words.entry.at) result }
 {
-    let o = layouts::open(config_at(script, at));
+    let o = layouts::open(config_at(words));
     Answered {
         answer: answers::opened(o.answer),
         layout: o.layout,
     }
 }
 
-pub fn ask(script: &[u8], at: usize, l: Layout) -> Answered<Answer>
-    requires { at + 16 ≤ length script.now }
-    ensures { Tells (ask_told script.now at l) result }
+pub fn ask(words: Words<'_, 3>, l: Layout) -> Answered<Answer>
+    ensures { Tells (ask_told words.entry.script.now words.entry.at l) result }
 {
-    let page = Page(words::word_at(script, at + 4));
-    let w = words::word_at(script, at + 8);
-    let h = words::word_at(script, at + 12);
+    let page = Page(words.word(1));
+    let w = words.word(2);
+    let h = words.word(3);
     let answer = answers::asked(multi_texture_packer::ask(l, page, Size { w, h }));
     Answered { answer, layout: l }
 }
 
-pub fn offer(script: &[u8], stores: Stores<'_>, at: usize, l: Layout) -> Answered<Answer>
-    requires { at + 24 ≤ length script.now }
-    ensures { Tells (offer_told script.now at (lent stores.entry) l) result }
+pub fn offer(words: Words<'_, 5>, stores: Stores<'_>, l: Layout) -> Answered<Answer>
+    ensures { Tells (offer_told words.entry.script.now words.entry.at (lent stores.entry) l) result }
 {
-    let key = Key(words::word_at(script, at + 4));
-    let store = fields::store_of(words::word_at(script, at + 8));
-    let offset = words::word_at(script, at + 12);
-    let w = words::word_at(script, at + 16);
-    let h = words::word_at(script, at + 20);
+    let key = Key(words.word(1));
+    let store = fields::store_of(words.word(2));
+    let offset = words.word(3);
+    let w = words.word(4);
+    let h = words.word(5);
     let image = Image {
         store,
         offset,
@@ -102,22 +98,20 @@ pub fn withdraw(l: Layout) -> Answered<Answer>
     }
 }
 
-pub fn page_size(script: &[u8], at: usize, l: Layout) -> Answered<Answer>
-    requires { at + 8 ≤ length script.now }
-    ensures { Tells (size_told script.now at l) result }
+pub fn page_size(words: Words<'_, 1>, l: Layout) -> Answered<Answer>
+    ensures { Tells (size_told words.entry.script.now words.entry.at l) result }
 {
-    let page = Page(words::word_at(script, at + 4));
+    let page = Page(words.word(1));
     let answer = answers::sized(layouts::page_size(l, page));
     Answered { answer, layout: l }
 }
 
-pub fn pixel(script: &[u8], stores: Stores<'_>, at: usize, l: Layout) -> Answered<Answer>
-    requires { at + 16 ≤ length script.now }
-    ensures { Tells (pixel_told script.now at (lent stores.entry) l) result }
+pub fn pixel(words: Words<'_, 3>, stores: Stores<'_>, l: Layout) -> Answered<Answer>
+    ensures { Tells (pixel_told words.entry.script.now words.entry.at (lent stores.entry) l) result }
 {
-    let page = Page(words::word_at(script, at + 4));
-    let x = words::word_at(script, at + 8);
-    let y = words::word_at(script, at + 12);
+    let page = Page(words.word(1));
+    let x = words.word(2);
+    let y = words.word(3);
     let answer = answers::looked(texture_packer::pixel(l, stores, page, x, y));
     Answered { answer, layout: l }
 }
@@ -144,13 +138,12 @@ fn request_of(request: u32, bits: u32) -> Request
     }
 }
 
-pub fn coordinates(script: &[u8], at: usize, l: Layout) -> Answered<Answer>
-    requires { at + 16 ≤ length script.now }
-    ensures { Tells (locate_told script.now at l) result }
+pub fn coordinates(words: Words<'_, 3>, l: Layout) -> Answered<Answer>
+    ensures { Tells (locate_told words.entry.script.now words.entry.at l) result }
 {
-    let key = Key(words::word_at(script, at + 4));
-    let request = words::word_at(script, at + 8);
-    let bits = words::word_at(script, at + 12);
+    let key = Key(words.word(1));
+    let request = words.word(2);
+    let bits = words.word(3);
     let answer = answers::located(locate::coordinates(l, key, request_of(request, bits)));
     Answered { answer, layout: l }
 }
@@ -170,16 +163,15 @@ fn colour_of(n: u32) -> Pixel
 }
 
 // Four words: 0 for none or anything else for a colour, the colour, the threshold, the discard switch.
-pub fn background_at(script: &[u8], at: usize) -> Background
-    requires { at + 16 ≤ length script.now }
-    ensures { result ≡ background_at script.now at }
+pub fn background_at(words: Words<'_, 3>) -> Background
+    ensures { result ≡ background_at words.entry.script.now words.entry.at }
 {
-    if words::word_at(script, at) == 0 {
+    if words.word(0) == 0 {
         return None;
     }
     Some(Colour {
-        pixel: colour_of(words::word_at(script, at + 4)),
-        threshold: threshold_of(words::word_at(script, at + 8)),
-        discard: fields::is_on(words::word_at(script, at + 12)),
+        pixel: colour_of(words.word(1)),
+        threshold: threshold_of(words.word(2)),
+        discard: fields::is_on(words.word(3)),
     })
 }

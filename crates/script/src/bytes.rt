@@ -3,13 +3,13 @@ ghost use Rattle.std.specs.Prelude.{◌≡◌, ◌+◌, ◌≤◌, length, take}
 ghost use Rattle.art.specs.Stores.{lent};
 ghost use Rattle.wire.specs.Bytes.{put};
 ghost use Rattle.commands.specs.Reading.{word};
-ghost use Rattle.commands.specs.Taking.{There};
 ghost use Rattle.script.specs.Stepping.{composed_bytes, compose_outcome, compose_pixels, compose_step, row_step};
 ghost use Rattle.script.specs.Doing.{Does, composed_size};
 
 use crate::steps;
 use crate::steps::{Ended, Step};
 use art::memory_rgba8_texture::Stores;
+use commands::command::Words;
 use compose::image_exporter;
 use lookup::image_row;
 use records::frame::{Key, Page};
@@ -19,22 +19,24 @@ use wire::{answers, words};
 
 // Compose rows into the part of the answers from a to e.
 fn compose_in<'a>(
-    script: &'a [u8],
+    words: Words<'_, 8>,
     stores: Stores<'a>,
     answers: &mut [u8],
-    at: usize,
     l: Layout,
     a: usize,
     e: usize,
 ) -> Result<(), Refusal>
-    requires { There script.now at 8 × (e ≡ a + word script.now at 8) × (e ≤ length answers.old) }
-    ensures value { result ≡ compose_outcome script.now (lent stores.entry) at l }
-    ensures answers_after { answers.new ≡ put answers.old a (composed_bytes result (compose_pixels script.now (lent stores.entry) at l)) }
+    requires { (e ≡ a + word words.script.now words.at 8) × (e ≤ length answers.old) }
+    ensures value { result ≡ compose_outcome words.entry.script.now (lent stores.entry) words.entry.at l }
+    ensures answers_after { answers.new ≡ put answers.old a (composed_bytes result (compose_pixels words.entry.script.now (lent stores.entry) words.entry.at l)) }
 {
-    let page = Page(words::word_at(script, at + 4));
-    let background = commands::background_at(script, at + 8);
-    let first = words::word_at(script, at + 24);
-    let rows = words::word_at(script, at + 28);
+    let page = Page(words.word(1));
+    let background = commands::background_at(Words {
+        script: words.script,
+        at: words.at + 8,
+    });
+    let first = words.word(6);
+    let rows = words.word(7);
     image_exporter::compose_rows(l, stores, page, background, first, rows, &mut answers[a..e])
 }
 
@@ -46,45 +48,43 @@ fn composed_size(o: Result<(), Refusal>, n: usize) -> usize
 
 // The part that is lent must fit in front of the end.
 pub fn compose_step<'a>(
-    script: &'a [u8],
+    words: Words<'_, 8>,
     stores: Stores<'a>,
     answers: &mut [u8],
-    at: usize,
     l: Layout,
     written: usize,
 ) -> Result<Step, Ended>
-    requires { There script.now at 8 × (written + 12 ≤ length answers.old) }
-    ensures { Does (compose_step script.now (lent stores.entry) (length answers.old) (take written answers.old) at l) written answers.old answers.new result }
+    requires { written + 12 ≤ length answers.old }
+    ensures { Does (compose_step words.entry.script.now (lent stores.entry) (length answers.old) (take written answers.old) words.entry.at l) written answers.old answers.new result }
 {
-    let size = words::word_at(script, at + 32) as usize;
+    let size = words.word(8) as usize;
     if answers.len() - written - 12 < 8 + size {
         return Err(Ended::NoRoom);
     }
     let a = written + 8;
-    let o = compose_in(script, stores, answers, at, l, a, a + size);
+    let o = compose_in(words, stores, answers, l, a, a + size);
     let more = composed_size(o, size);
     steps::write_number(answers, written, answers::number(o), (more / 4) as u32);
     Ok(Step {
         layout: l,
-        next: at + 36,
+        next: words.at + 36,
         written: a + more,
     })
 }
 
 // Row of an image: it has at most 2048 pixels.
 pub fn row_step<'a>(
-    script: &'a [u8],
+    words: Words<'_, 2>,
     stores: Stores<'a>,
     answers: &mut [u8],
-    at: usize,
     l: Layout,
     written: usize,
 ) -> Result<Step, Ended>
-    requires { There script.now at 2 × (written + 12 ≤ length answers.old) }
-    ensures { Does (row_step script.now (lent stores.entry) (length answers.old) (take written answers.old) at l) written answers.old answers.new result }
+    requires { written + 12 ≤ length answers.old }
+    ensures { Does (row_step words.entry.script.now (lent stores.entry) (length answers.old) (take written answers.old) words.entry.at l) written answers.old answers.new result }
 {
-    let key = Key(words::word_at(script, at + 4));
-    let row = words::word_at(script, at + 8);
+    let key = Key(words.word(1));
+    let row = words.word(2);
     let n = answers::number(image_row::row_refusal(l, stores, key, row));
     let part = image_row::row_of_image(l, stores, key, row);
     let size = part.len();
@@ -95,7 +95,7 @@ pub fn row_step<'a>(
     words::put_bytes(answers, written + 8, part);
     Ok(Step {
         layout: l,
-        next: at + 12,
+        next: words.at + 12,
         written: written + 8 + size,
     })
 }

@@ -11,12 +11,12 @@ ghost use Rattle.script.specs.Doing.{Does};
 use crate::steps::{Ended, Step};
 use crate::{bytes, checking, steps};
 use art::memory_rgba8_texture::Stores;
-use commands::command::Command;
+use commands::command::{Command, Words};
 use records::layout::Layout;
 use records::{layout as layouts, texture_packer_config};
 use wire::words;
 
-// The command at byte `at`, whose words are there.
+// The command at byte `at`, whose words are there. How many it takes is known in each arm alone, so a clause asks, and each arm makes its `Words`.
 fn run_command<'a>(
     script: &'a [u8],
     stores: Stores<'a>,
@@ -31,49 +31,50 @@ fn run_command<'a>(
     ensures { Does (command_step script.now (lent stores.entry) (length answers.old) (take written answers.old) at l (command_number command)) written answers.old answers.new result }
 {
     let o = match command {
-        Command::Open => commands::open(script, at),
-        Command::Ask => commands::ask(script, at, l),
-        Command::Offer => commands::offer(script, stores, at, l),
+        Command::Open => commands::open(Words { script, at }),
+        Command::Ask => commands::ask(Words { script, at }, l),
+        Command::Offer => commands::offer(Words { script, at }, stores, l),
         Command::Withdraw => commands::withdraw(l),
-        Command::PageSize => commands::page_size(script, at, l),
-        Command::Pixel => commands::pixel(script, stores, at, l),
-        Command::Coordinates => commands::coordinates(script, at, l),
+        Command::PageSize => commands::page_size(Words { script, at }, l),
+        Command::Pixel => commands::pixel(Words { script, at }, stores, l),
+        Command::Coordinates => commands::coordinates(Words { script, at }, l),
         Command::ComposeRows => {
-            return bytes::compose_step(script, stores, answers, at, l, written);
+            return bytes::compose_step(Words { script, at }, stores, answers, l, written);
         }
         Command::CheckRows => {
-            return checking::check_step(script, stores, answers, at, l, written);
+            return checking::check_step(Words { script, at }, stores, answers, l, written);
         }
         Command::RowOfImage => {
-            return bytes::row_step(script, stores, answers, at, l, written);
+            return bytes::row_step(Words { script, at }, stores, answers, l, written);
         }
-        Command::Set => return steps::set_step(script, at, l, written),
-        Command::Data => return steps::data_step(script, at, l, written),
+        Command::Set => return steps::set_step(Words { script, at }, l, written),
+        Command::Data => return steps::data_step(Words { script, at }, l, written),
     };
     let next = at + 4 + 4 * command.words();
     steps::say(answers, written, o.answer, o.layout, next)
 }
 
+// The next command, from where the last one left off.
 fn step<'a>(
     script: &'a [u8],
     stores: Stores<'a>,
     answers: &mut [u8],
-    at: usize,
-    l: Layout,
-    written: usize,
+    s: Step,
 ) -> Result<Step, Ended>
-    requires { (at < length script.now) × (written + 12 ≤ length answers.old) }
-    ensures { Does (stepped script.now (lent stores.entry) (length answers.old) (take written answers.old) at l) written answers.old answers.new result }
+    requires { (s.next < length script.now) × (s.written + 12 ≤ length answers.old) }
+    ensures { Does (stepped script.now (lent stores.entry) (length answers.old) (take s.written answers.old) s.next s.layout) s.written answers.old answers.new result }
 {
-    let left = script.len() - at;
+    let left = script.len() - s.next;
     if left < 4 {
         return Err(Ended::CutShort);
     }
-    let command = Command::try_from(words::word_at(script, at))?;
+    let command = Command::try_from(words::word_at(script, s.next))?;
     if left - 4 < 4 * command.words() {
         return Err(Ended::CutShort);
     }
-    run_command(script, stores, answers, command, at, l, written)
+    run_command(
+        script, stores, answers, command, s.next, s.layout, s.written,
+    )
 }
 
 // The end: a code and where it ended, modulo 2^32.
@@ -99,18 +100,16 @@ pub fn run_commands<'a>(script: &'a [u8], stores: Stores<'a>, answers: &mut [u8]
     ensures value { result ≡ length (ran script.now (lent stores.entry) (length answers.old)) }
     ensures answers_after { answers.new ≡ put answers.old 0 (ran script.now (lent stores.entry) (length answers.old)) }
 {
-    let mut l = blank();
-    let mut at: usize = 0;
-    let mut written: usize = 0;
-    while at < script.len() {
-        match step(script, stores, answers, at, l, written) {
-            Ok(s) => {
-                l = s.layout;
-                at = s.next;
-                written = s.written;
-            }
-            Err(ended) => return finish(answers, written, u32::from(ended), at),
+    let mut s = Step {
+        layout: blank(),
+        next: 0,
+        written: 0,
+    };
+    while s.next < script.len() {
+        match step(script, stores, answers, s) {
+            Ok(after) => s = after,
+            Err(ended) => return finish(answers, s.written, u32::from(ended), s.next),
         }
     }
-    finish(answers, written, 0, at)
+    finish(answers, s.written, 0, s.next)
 }

@@ -1,12 +1,11 @@
 // One step of a run: an answer is written where the end still fits after it. The commands that answer nothing.
 ghost use Rattle.std.specs.Prelude.{◌≡◌, [], ◌∷◌, ◌+◌, ◌*◌, ◌≤◌, ◌<◌, length, take};
 ghost use Rattle.wire.specs.Bytes.{words_bytes, put};
-ghost use Rattle.commands.specs.Taking.{There};
 ghost use Rattle.script.specs.Stepping.{answer_bytes, saying, set_step, data_step};
 ghost use Rattle.script.specs.Doing.{code_of, Leaves, Does};
 ghost use Rattle.script.specs.declared.steps.Ended.TheVariants.{Unknown};
 
-use commands::command::NoCommand;
+use commands::command::{NoCommand, Words};
 use records::layout::Layout;
 use wire::answers::Answer;
 use wire::{fields, words};
@@ -36,7 +35,7 @@ impl From<NoCommand> for Ended {
     }
 }
 
-// Where a command leaves off: the layout, the next command's place in the script, and the bytes of answers written.
+// Where a command leaves off, and the next one begins: the layout, the next command's place in the script, and the bytes of answers written.
 #[derive(Clone, Copy)]
 pub struct Step {
     pub layout: Layout,
@@ -85,36 +84,34 @@ pub fn write_number(answers: &mut [u8], written: usize, n: u32, more: u32)
     words::put_word(answers, written + 4, n);
 }
 
-pub fn set_step(script: &[u8], at: usize, l: Layout, written: usize) -> Result<Step, Ended>
-    requires { There script.now at 3 }
-    ensures { Leaves written (set_step script.now at l) result }
+pub fn set_step(words: Words<'_, 3>, l: Layout, written: usize) -> Result<Step, Ended>
+    ensures { Leaves written (set_step words.entry.script.now words.entry.at l) result }
 {
-    let field = words::word_at(script, at + 4);
+    let field = words.word(1);
     if !fields::is_field(field) {
         return Err(Ended::Unknown);
     }
-    let place = words::word_at(script, at + 8);
-    let n = words::word_at(script, at + 12);
+    let place = words.word(2);
+    let n = words.word(3);
     let after = fields::layout_with(l, field, place, n);
     Ok(Step {
         layout: after,
-        next: at + 16,
+        next: words.at + 16,
         written,
     })
 }
 
-pub fn data_step(script: &[u8], at: usize, l: Layout, written: usize) -> Result<Step, Ended>
-    requires { There script.now at 1 }
-    ensures { Leaves written (data_step script.now at l) result }
+pub fn data_step(words: Words<'_, 1>, l: Layout, written: usize) -> Result<Step, Ended>
+    ensures { Leaves written (data_step words.entry.script.now words.entry.at l) result }
 {
-    let n = words::word_at(script, at + 4) as usize;
-    let left = script.len() - at - 8;
+    let n = words.word(1) as usize;
+    let left = words.script.len() - words.at - 8;
     if left < 4 * n {
         return Err(Ended::CutShort);
     }
     Ok(Step {
         layout: l,
-        next: at + 8 + 4 * n,
+        next: words.at + 8 + 4 * n,
         written,
     })
 }

@@ -9,5 +9,5 @@ pub returns : goal.returns
 unfolding ask_told page_at size_at
 returns c =
     let l = c.args.l in
-    let e = c.ask.ensures.value ∙ (λ i. asked l (record { 0 = c.word_at.ensures i }) (record { w = c.word_at-w.ensures i; h = c.word_at-h.ensures i })) in
+    let e = c.ask.ensures.value ∙ (λ i. asked l (record { 0 = c.word.ensures i }) (record { w = c.word-w.ensures i; h = c.word-h.ensures i })) in
     record { says = subst (λ o. Says (asked_numbers o) c.asked-answer.result) e c.asked-answer.ensures; layout = refl }

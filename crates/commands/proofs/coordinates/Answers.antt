@@ -9,6 +9,6 @@ pub returns : goal.returns
 unfolding locate_told key_at
 returns c =
     let l = c.args.l in
-    let request = c.request_of.ensures ∙ (λ i. request_of (c.word_at-request.ensures i) (c.word_at-bits.ensures i)) in
-    let e = c.coordinates.ensures.value ∙ (λ i. located l (record { 0 = c.word_at.ensures i }) (request i)) in
+    let request = c.request_of.ensures ∙ (λ i. request_of (c.word-request.ensures i) (c.word-bits.ensures i)) in
+    let e = c.coordinates.ensures.value ∙ (λ i. located l (record { 0 = c.word.ensures i }) (request i)) in
     record { says = subst (λ o. Says (located_numbers o) c.located-answer.result) e c.located-answer.ensures; layout = refl }

@@ -11,8 +11,8 @@ pub returns : goal.returns
 unfolding offer_told key_at image_at
 returns c =
     let a = c.args in
-    let key = c.word_at.ensures in
-    let store = c.store_of-store.ensures ∙ ap store_of c.word_at-2.ensures in
+    let key = c.word.ensures in
+    let store = c.store_of-store.ensures ∙ ap store_of c.word-2.ensures in
     let e = c.offer-o.ensures.value
-    ∙ (λ i. offered a.l (lent a.stores) (record { 0 = key i }) (record { store = store i; offset = c.word_at-offset.ensures i; w = c.word_at-w.ensures i; h = c.word_at-h.ensures i })) in
+    ∙ (λ i. offered a.l (lent a.stores) (record { 0 = key i }) (record { store = store i; offset = c.word-offset.ensures i; w = c.word-w.ensures i; h = c.word-h.ensures i })) in
     record { says = subst (λ o. Says (offered_numbers o.answer) c.offered.result) e c.offered.ensures; layout = ap (λ o. o.layout) e }

@@ -11,5 +11,5 @@ unfolding pixel_told page_at
 returns c =
     let a = c.args in
     let e = c.pixel.ensures.value
-    ∙ (λ i. looked a.l (lent a.stores) (record { 0 = c.word_at.ensures i }) (c.word_at-x.ensures i) (c.word_at-y.ensures i)) in
+    ∙ (λ i. looked a.l (lent a.stores) (record { 0 = c.word.ensures i }) (c.word-x.ensures i) (c.word-y.ensures i)) in
     record { says = subst (λ o. Says (looked_numbers o) c.looked-answer.result) e c.looked-answer.ensures; layout = refl }

@@ -18,44 +18,44 @@ use Rattle.script.proofs.bytes.compose_step.Goals as goal
 pub returns-then-answers-written : goal.returns-then-answers-written
 returns-then-answers-written c =
     let a = c.args in
-    let script = a.script.now in
+    let script = a.words.script.now in
     let s = lent a.stores in
     let old = a.answers.now in
     let said = take a.written old in
     let so : length said ≡ a.written = length-take-le a.written old (omega arith) in
-    let size = c.word_at-size.ensures in
-    does_stop a.written old (compose_step script s (length old) said a.at a.l) NoRoom
-    (compose_stops script s a.at a.l (length old) said (omega arith))
+    let size = c.word-size.ensures in
+    does_stop a.written old (compose_step script s (length old) said a.words.at a.l) NoRoom
+    (compose_stops script s a.words.at a.l (length old) said (omega arith))
 
 pub overflow_cast-more : goal.overflow_cast-more
-overflow_cast-more c = let m = size-at_most c.compose_in-o.result c.word_at-size.result in let e = c.composed_size-more.ensures in omega arith
+overflow_cast-more c = let m = size-at_most c.compose_in-o.result c.word-size.result in let e = c.composed_size-more.ensures in omega arith
 
 pub write_number-requires : goal.write_number-requires
 write_number-requires c =
-    let m = size-at_most c.compose_in-o.result c.word_at-size.result in
+    let m = size-at_most c.compose_in-o.result c.word-size.result in
     let e = c.composed_size-more.ensures in
     let k = c.compose_in-o.auto.answers in
     (omega arith, omega arith)
 
 pub overflow_add-result-2 : goal.overflow_add-result-2
-overflow_add-result-2 c = let m = size-at_most c.compose_in-o.result c.word_at-size.result in let e = c.composed_size-more.ensures in omega arith
+overflow_add-result-2 c = let m = size-at_most c.compose_in-o.result c.word-size.result in let e = c.composed_size-more.ensures in omega arith
 
 pub returns : goal.returns
 unfolding next_at words_of
 returns c =
     let a = c.args in
-    let script = a.script.now in
+    let script = a.words.script.now in
     let s = lent a.stores in
     let old = a.answers.now in
     let said = take a.written old in
     let so : length said ≡ a.written = length-take-le a.written old (omega arith) in
-    let size = c.word_at-size.ensures in
+    let size = c.word-size.ensures in
     let m = c.composed_size-more.ensures ∙ (λ i. composed_size c.compose_in-o.result (size i)) in
-    let long = compose_said-long script s a.at a.l in
-    let same = ap (λ o. composed_size o (word script a.at 8)) c.compose_in-o.ensures.value in
-    let to : a.written + 8 + c.composed_size-more.result ≡ a.written + length (compose_said script s a.at a.l) = omega arith in
-    does_go a.written old _ (compose_step script s (length old) said a.at a.l) _ a.l (a.at + 36) (compose_said script s a.at a.l)
-    (compose_goes script s a.at a.l (length old) said (omega arith))
-    (λ i. Ok (record { layout = a.l; next = a.at + 36; written = to i }))
-    (compose_written script s a.at a.l old a.written c.compose_in-o.result c.number.result c.composed_size-more.result
+    let long = compose_said-long script s a.words.at a.l in
+    let same = ap (λ o. composed_size o (word script a.words.at 8)) c.compose_in-o.ensures.value in
+    let to : a.written + 8 + c.composed_size-more.result ≡ a.written + length (compose_said script s a.words.at a.l) = omega arith in
+    does_go a.written old _ (compose_step script s (length old) said a.words.at a.l) _ a.l (a.words.at + 36) (compose_said script s a.words.at a.l)
+    (compose_goes script s a.words.at a.l (length old) said (omega arith))
+    (λ i. Ok (record { layout = a.l; next = a.words.at + 36; written = to i }))
+    (compose_written script s a.words.at a.l old a.written c.compose_in-o.result c.number.result c.composed_size-more.result
     c.compose_in-o.ensures.value c.number.ensures.composed m c.compose_in-o.ensures.answers_after c.write_number.ensures (omega arith))

@@ -14,22 +14,22 @@ pub returns-then-source-e : goal.returns-then-source-e
 unfolding check_past
 returns-then-source-e c =
     let a = c.args in
-    let script = a.script.now in
-    let from = c.word_at-a.ensures in
-    let size = c.word_at-2.ensures in
-    (lt-ltb (length a.source.now) (word script a.at 9 + word script a.at 10) (omega arith), refl)
+    let script = a.words.script.now in
+    let from = c.word-a.ensures in
+    let size = c.word-2.ensures in
+    (lt-ltb (length a.source.now) (word script a.words.at 9 + word script a.words.at 10) (omega arith), refl)
 
 pub returns : goal.returns
 unfolding check_past check_numbers page_at
 returns c =
     let a = c.args in
-    let script = a.script.now in
+    let script = a.words.script.now in
     let s = lent a.stores in
-    let from = c.word_at-a.ensures in
-    let size = c.word_at-2.ensures in
-    let long : c.word_at-a.result + c.word_at-2.result - c.word_at-a.result ≡ word script a.at 10 = omega arith in
+    let from = c.word-a.ensures in
+    let size = c.word-2.ensures in
+    let long : c.word-a.result + c.word-2.result - c.word-a.result ≡ word script a.words.at 10 = omega arith in
     let e = c.check_rows.ensures.value
-    ∙ (λ i. checked_rows a.l s (record { 0 = c.word_at.ensures i }) (c.background_at-background.ensures i) (c.word_at-first.ensures i) (c.word_at-rows.ensures i) (take (long i) (drop (from i) a.source.now))) in (
-      le-ltb (length a.source.now) (word script a.at 9 + word script a.at 10) (omega arith),
+    ∙ (λ i. checked_rows a.l s (record { 0 = c.word.ensures i }) (c.background_at-background.ensures i) (c.word-first.ensures i) (c.word-rows.ensures i) (take (long i) (drop (from i) a.source.now))) in (
+      le-ltb (length a.source.now) (word script a.words.at 9 + word script a.words.at 10) (omega arith),
       subst (λ o. Says (checked_numbers o) c.checked.result) e c.checked.ensures,
     )

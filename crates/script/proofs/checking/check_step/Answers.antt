@@ -13,28 +13,28 @@ use Rattle.script.proofs.checking.check_step.Goals as goal
 pub returns-in_err-a : goal.returns-in_err-a
 returns-in_err-a c =
     let a = c.args in
-    let script = a.script.now in
+    let script = a.words.script.now in
     let s = lent a.stores in
     let old = a.answers.now in
     let said = take a.written old in
     let result : c.from_residual.result ≡ Err c.in_err-a.field-0.0 = search rules in
-    let past = ap (check_past script a.at) (sym c.check_source-source.ensures) ∙ c.in_err-a.ensures.0 in
+    let past = ap (check_past script a.words.at) (sym c.check_source-source.ensures) ∙ c.in_err-a.ensures.0 in
     rw (result, c.in_err-a.ensures.1)
-    (does_stop a.written old (check_step script s (length old) said a.at a.l) PastSource (check_stops script s (length old) said a.at a.l past))
+    (does_stop a.written old (check_step script s (length old) said a.words.at a.l) PastSource (check_stops script s (length old) said a.words.at a.l past))
 
 pub say-requires : goal.say-requires
-say-requires c = (c.in_ok-a.ensures.1.few, c.requires.1)
+say-requires c = (c.in_ok-a.ensures.1.few, c.requires)
 
 pub returns : goal.returns
 unfolding next_at words_of
 returns c =
     let a = c.args in
-    let script = a.script.now in
+    let script = a.words.script.now in
     let s = lent a.stores in
     let old = a.answers.now in
     let said = take a.written old in
     let source = c.check_source-source.ensures in
-    let none = ap (check_past script a.at) (sym source) ∙ c.in_ok-a.ensures.0 in
-    let numbers = c.in_ok-a.ensures.1.words ∙ ap (check_numbers script s a.at a.l) source in
-    does_as a.written old c.say.result (check_step script s (length old) said a.at a.l) _ _
-    (check_goes script s (length old) said a.at a.l _ none numbers) c.say.ensures
+    let none = ap (check_past script a.words.at) (sym source) ∙ c.in_ok-a.ensures.0 in
+    let numbers = c.in_ok-a.ensures.1.words ∙ ap (check_numbers script s a.words.at a.l) source in
+    does_as a.written old c.say.result (check_step script s (length old) said a.words.at a.l) _ _
+    (check_goes script s (length old) said a.words.at a.l _ none numbers) c.say.ensures

@@ -32,57 +32,57 @@ known c k new r e h = subst (λ (n : Command). Runs c n new r) (sym e) h
 there : (c : Start) (k : Command) → c.args.command ≡ k → There c.args.script.now c.args.at (words_of (command_number k))
 there c k e = subst (λ (n : Command). There c.args.script.now c.args.at (words_of (command_number n))) e c.requires.command_bound
 
-pub open-o-requires : goal.open-o-requires
+pub invariant_of-open : goal.invariant_of-open
 unfolding words_of
-open-o-requires c = let h = there (goal.at.open-o-requires c).Start Open c.in-Open.is in omega arith
+invariant_of-open c = let h = there (goal.at.invariant_of-open c).Start Open c.in-Open.is in omega arith
 
-pub ask-o-requires : goal.ask-o-requires
+pub invariant_of-ask : goal.invariant_of-ask
 unfolding words_of
-ask-o-requires c = let h = there (goal.at.ask-o-requires c).Start Ask c.in-Ask.is in omega arith
+invariant_of-ask c = let h = there (goal.at.invariant_of-ask c).Start Ask c.in-Ask.is in omega arith
 
-pub offer-o-requires : goal.offer-o-requires
+pub invariant_of-offer : goal.invariant_of-offer
 unfolding words_of
-offer-o-requires c = let h = there (goal.at.offer-o-requires c).Start Offer c.in-Offer.is in omega arith
+invariant_of-offer c = let h = there (goal.at.invariant_of-offer c).Start Offer c.in-Offer.is in omega arith
 
-pub page_size-o-requires : goal.page_size-o-requires
+pub invariant_of-page_size : goal.invariant_of-page_size
 unfolding words_of
-page_size-o-requires c = let h = there (goal.at.page_size-o-requires c).Start PageSize c.in-PageSize.is in omega arith
+invariant_of-page_size c = let h = there (goal.at.invariant_of-page_size c).Start PageSize c.in-PageSize.is in omega arith
 
-pub pixel-o-requires : goal.pixel-o-requires
+pub invariant_of-pixel : goal.invariant_of-pixel
 unfolding words_of
-pixel-o-requires c = let h = there (goal.at.pixel-o-requires c).Start Pixel c.in-Pixel.is in omega arith
+invariant_of-pixel c = let h = there (goal.at.invariant_of-pixel c).Start Pixel c.in-Pixel.is in omega arith
 
-pub coordinates-o-requires : goal.coordinates-o-requires
+pub invariant_of-coordinates : goal.invariant_of-coordinates
 unfolding words_of
-coordinates-o-requires c = let h = there (goal.at.coordinates-o-requires c).Start Coordinates c.in-Coordinates.is in omega arith
+invariant_of-coordinates c = let h = there (goal.at.invariant_of-coordinates c).Start Coordinates c.in-Coordinates.is in omega arith
 
-pub compose_step-requires : goal.compose_step-requires
+pub invariant_of-compose_step : goal.invariant_of-compose_step
 unfolding words_of
-compose_step-requires c = let h = there (goal.at.compose_step-requires c).Start ComposeRows c.in-ComposeRows.is in (omega arith, c.requires.written_in_bounds)
+invariant_of-compose_step c = let h = there (goal.at.invariant_of-compose_step c).Start ComposeRows c.in-ComposeRows.is in omega arith
 
 pub returns-in-ComposeRows : goal.returns-in-ComposeRows
 unfolding command_step
 returns-in-ComposeRows c = known (goal.at.returns-in-ComposeRows c).Start ComposeRows _ _ c.in-ComposeRows.is c.compose_step.ensures
 
-pub check_step-requires : goal.check_step-requires
+pub invariant_of-check_step : goal.invariant_of-check_step
 unfolding words_of
-check_step-requires c = let h = there (goal.at.check_step-requires c).Start CheckRows c.in-CheckRows.is in (omega arith, c.requires.written_in_bounds)
+invariant_of-check_step c = let h = there (goal.at.invariant_of-check_step c).Start CheckRows c.in-CheckRows.is in omega arith
 
 pub returns-in-CheckRows : goal.returns-in-CheckRows
 unfolding command_step
 returns-in-CheckRows c = known (goal.at.returns-in-CheckRows c).Start CheckRows _ _ c.in-CheckRows.is c.check_step.ensures
 
-pub row_step-requires : goal.row_step-requires
+pub invariant_of-row_step : goal.invariant_of-row_step
 unfolding words_of
-row_step-requires c = let h = there (goal.at.row_step-requires c).Start RowOfImage c.in-RowOfImage.is in (omega arith, c.requires.written_in_bounds)
+invariant_of-row_step c = let h = there (goal.at.invariant_of-row_step c).Start RowOfImage c.in-RowOfImage.is in omega arith
 
 pub returns-in-RowOfImage : goal.returns-in-RowOfImage
 unfolding command_step
 returns-in-RowOfImage c = known (goal.at.returns-in-RowOfImage c).Start RowOfImage _ _ c.in-RowOfImage.is c.row_step.ensures
 
-pub set_step-requires : goal.set_step-requires
+pub invariant_of-set_step : goal.invariant_of-set_step
 unfolding words_of
-set_step-requires c = let h = there (goal.at.set_step-requires c).Start Set c.in-Set.is in omega arith
+invariant_of-set_step c = let h = there (goal.at.invariant_of-set_step c).Start Set c.in-Set.is in omega arith
 
 pub returns-in-Set : goal.returns-in-Set
 unfolding command_step
@@ -91,9 +91,9 @@ returns-in-Set c =
     known (goal.at.returns-in-Set c).Start Set _ _ c.in-Set.is
     (does_quiet a.written a.answers.now c.set_step.result (set_step a.script.now a.at a.l) (quiet_set a.script.now a.at a.l) c.set_step.ensures)
 
-pub data_step-requires : goal.data_step-requires
+pub invariant_of-data_step : goal.invariant_of-data_step
 unfolding words_of
-data_step-requires c = let h = there (goal.at.data_step-requires c).Start Data c.in-Data.is in omega arith
+invariant_of-data_step c = let h = there (goal.at.invariant_of-data_step c).Start Data c.in-Data.is in omega arith
 
 pub returns-in-Data : goal.returns-in-Data
 unfolding command_step

@@ -7,20 +7,20 @@ use Rattle.script.specs.Stepping.{end_bytes}
 use Rattle.script.proofs.Going.{going_start, going_long, ended, goes, unchanged, stops}
 use Rattle.script.proofs.running.run_commands.Goals as goal
 
-pub blank-l-requires : goal.blank-l-requires
-blank-l-requires c = tt
+pub blank-requires : goal.blank-requires
+blank-requires c = tt
 
-pub loop-at-init : goal.loop-at-init
-loop-at-init c =
+pub loop-s-init : goal.loop-s-init
+loop-s-init c =
     let a = c.args in
-    going_start a.script.now (lent a.stores) a.answers.now c.blank-l.result c.blank-l.ensures c.requires
+    going_start a.script.now (lent a.stores) a.answers.now c.blank.result c.blank.ensures c.requires
 
 pub step-requires : goal.step-requires
 step-requires c =
     let a = c.args in
     let s = lent a.stores in
-    let k = c.loop-at in
-    let n = going_long a.script.now s a.answers.now k.answers k.l k.at k.written k.invariant in
+    let k = c.loop-s in
+    let n = going_long a.script.now s a.answers.now k.answers k.s.layout k.s.next k.s.written k.invariant in
     let r = k.invariant.room in
     (omega arith, omega arith)
 
@@ -28,9 +28,9 @@ pub finish-requires : goal.finish-requires
 finish-requires c =
     let a = c.args in
     let s = lent a.stores in
-    let k = c.loop-at in
-    let n = going_long a.script.now s a.answers.now k.answers k.l k.at k.written k.invariant in
-    let m = ap length (unchanged a.script.now s a.answers.now k.answers k.l k.at k.written k.invariant c.loop-at-test.true _ c.in-Err.ended c.in-Err.ensures) in
+    let k = c.loop-s in
+    let n = going_long a.script.now s a.answers.now k.answers k.s.layout k.s.next k.s.written k.invariant in
+    let m = ap length (unchanged a.script.now s a.answers.now k.answers k.s.layout k.s.next k.s.written k.invariant c.loop-s-test.true _ c.in-Err.ended c.in-Err.ensures) in
     let r = k.invariant.room in
     omega arith
 
@@ -38,33 +38,33 @@ pub returns-in-Err : goal.returns-in-Err
 returns-in-Err c =
     let a = c.args in
     let s = lent a.stores in
-    let k = c.loop-at in
+    let k = c.loop-s in
     let f = c.finish.ensures in
-    let code = f.1 ∙ ap (λ n. put c.step.new.answers k.written (end_bytes n k.at)) c.from.ensures in
-    let e = stops a.script.now s a.answers.now k.answers k.l k.at k.written k.invariant c.loop-at-test.true _ c.in-Err.ended c.in-Err.ensures code in
+    let code = f.1 ∙ ap (λ n. put c.step.new.answers k.s.written (end_bytes n k.s.next)) c.from.ensures in
+    let e = stops a.script.now s a.answers.now k.answers k.s.layout k.s.next k.s.written k.invariant c.loop-s-test.true _ c.in-Err.ended c.in-Err.ensures code in
     record { value = f.0 ∙ e.0; answers_after = e.1 }
 
-pub loop-at-smaller : goal.loop-at-smaller
-loop-at-smaller c =
+pub loop-s-smaller : goal.loop-s-smaller
+loop-s-smaller c =
     let a = c.args in
     let s = lent a.stores in
-    let k = c.loop-at in
-    let o = (goes a.script.now s a.answers.now k.answers k.l k.at k.written k.invariant c.loop-at-test.true _ c.in-Ok.s c.in-Ok.ensures).1 in
+    let k = c.loop-s in
+    let o = (goes a.script.now s a.answers.now k.answers k.s.layout k.s.next k.s.written k.invariant c.loop-s-test.true _ c.in-Ok.after c.in-Ok.ensures).1 in
     omega arith
 
-pub loop-at-preserved : goal.loop-at-preserved
-loop-at-preserved c =
+pub loop-s-preserved : goal.loop-s-preserved
+loop-s-preserved c =
     let a = c.args in
     let s = lent a.stores in
-    let k = c.loop-at in
-    (goes a.script.now s a.answers.now k.answers k.l k.at k.written k.invariant c.loop-at-test.true _ c.in-Ok.s c.in-Ok.ensures).0
+    let k = c.loop-s in
+    (goes a.script.now s a.answers.now k.answers k.s.layout k.s.next k.s.written k.invariant c.loop-s-test.true _ c.in-Ok.after c.in-Ok.ensures).0
 
 pub finish-requires-2 : goal.finish-requires-2
 finish-requires-2 c =
     let a = c.args in
     let s = lent a.stores in
-    let k = c.loop-at in
-    let n = going_long a.script.now s a.answers.now k.answers k.l k.at k.written k.invariant in
+    let k = c.loop-s in
+    let n = going_long a.script.now s a.answers.now k.answers k.s.layout k.s.next k.s.written k.invariant in
     let r = k.invariant.room in
     omega arith
 
@@ -72,7 +72,7 @@ pub returns : goal.returns
 returns c =
     let a = c.args in
     let s = lent a.stores in
-    let k = c.loop-at in
+    let k = c.loop-s in
     let f = c.finish-2.ensures in
-    let e = ended a.script.now s a.answers.now k.answers k.l k.at k.written k.invariant c.loop-at-test.false f.1 in
+    let e = ended a.script.now s a.answers.now k.answers k.s.layout k.s.next k.s.written k.invariant c.loop-s-test.false f.1 in
     record { value = f.0 ∙ e.0; answers_after = e.1 }

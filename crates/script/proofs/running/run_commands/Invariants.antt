@@ -5,8 +5,8 @@ use Rattle.script.proofs.Going.{Going}
 use Rattle.script.proofs.running.run_commands.Given as goal
 
 -- `run_commands` says what is left to say, command by command. Assumes nothing.
-abbrev pub invariant-loop-at : goal.invariant-loop-at
-invariant-loop-at l = Going l.script (lent l.stores) l.initial.answers l.answers l.l l.at l.written
+abbrev pub invariant-loop-s : goal.invariant-loop-s
+invariant-loop-s l = Going l.script (lent l.stores) l.initial.answers l.answers l.s.layout l.s.next l.s.written
 
-abbrev pub decreases-loop-at : goal.decreases-loop-at
-decreases-loop-at l = length l.script - l.at
+abbrev pub decreases-loop-s : goal.decreases-loop-s
+decreases-loop-s l = length l.script - l.s.next

@@ -13,13 +13,13 @@ pub returns-then-left-n : goal.returns-then-left-n
 unfolding data_step next_at words_of
 returns-then-left-n c =
     let a = c.args in
-    let n = c.word_at-n.ensures in
-    rw (lt-ltb (length a.script.now) (a.at + 8 + 4 * word_at a.script.now (a.at + 4)) (omega arith)) refl
+    let n = c.word-n.ensures in
+    rw (lt-ltb (length a.words.script.now) (a.words.at + 8 + 4 * word_at a.words.script.now (a.words.at + 4)) (omega arith)) refl
 
 pub returns : goal.returns
 unfolding data_step next_at words_of
 returns c =
     let a = c.args in
-    let n = c.word_at-n.ensures in
+    let n = c.word-n.ensures in
     let w : a.written ≡ a.written + 0 = omega arith in
-    rw (le-ltb (length a.script.now) (a.at + 8 + 4 * word_at a.script.now (a.at + 4)) (omega arith)) (λ i. Ok (record { layout = a.l; next = a.at + 8 + 4 * n i; written = w i }))
+    rw (le-ltb (length a.words.script.now) (a.words.at + 8 + 4 * word_at a.words.script.now (a.words.at + 4)) (omega arith)) (λ i. Ok (record { layout = a.l; next = a.words.at + 8 + 4 * n i; written = w i }))

@@ -11,7 +11,7 @@ pub returns-then-not-is_field : goal.returns-then-not-is_field
 unfolding set_step
 returns-then-not-is_field c =
     let a = c.args in
-    let f = c.is_field.ensures ∙ ap is_field c.word_at-field.ensures in
+    let f = c.is_field.ensures ∙ ap is_field c.word-field.ensures in
     let none = sym f ∙ c.if-not-is_field.true in
     rw none refl
 
@@ -19,8 +19,8 @@ pub returns : goal.returns
 unfolding set_step next_at words_of
 returns c =
     let a = c.args in
-    let f = c.is_field.ensures ∙ ap is_field c.word_at-field.ensures in
+    let f = c.is_field.ensures ∙ ap is_field c.word-field.ensures in
     let some = sym f ∙ c.if-not-is_field.false in
-    let l = c.layout_with-after.ensures ∙ (λ i. layout_with a.l (c.word_at-field.ensures i) (c.word_at-place.ensures i) (c.word_at-n.ensures i)) in
+    let l = c.layout_with-after.ensures ∙ (λ i. layout_with a.l (c.word-field.ensures i) (c.word-place.ensures i) (c.word-n.ensures i)) in
     let w : a.written ≡ a.written + 0 = omega arith in
-    rw some (λ i. Ok (record { layout = l i; next = a.at + 16; written = w i }))
+    rw some (λ i. Ok (record { layout = l i; next = a.words.at + 16; written = w i }))
