@@ -8,7 +8,7 @@ use mathlib.Core.Option.{Option, none, some}
 use mathlib.Core.Logic.{◌⊎◌, inl, inr}
 use lib.ListN.{length, get_or}
 use Rattle.std.specs.Prelude.{Option as Found, Some, None}
-use Rattle.std.specs.Option.{MatchOption}
+use Rattle.std.specs.Option.{MatchOption, unwrap_or}
 use Rattle.std.specs.List.{AllWithin, HoldsAt}
 use Rattle.geometry.specs.Words.{any, earliest, or_else}
 use Rattle.geometry.proofs.Words.{not_both, earliest-at, earliest-none}
@@ -42,6 +42,14 @@ module _ (k : Key) (rs : List Record) where
   place_none m =
       ap (λ (o : Option ℕ). or_else o (length rs))
       (earliest-none (λ (j : ℕ). has_key k (get_or rs j blank_record)) 0 (length rs) (λ j a b. m j (omega arith)))
+
+-- what a search for the key finds, or the length
+pub place_is : (k : Key) (rs : List Record) (o : Found ℕ)
+    → MatchOption o (AllWithin (λ r. has_key k r ≡ false) rs 0 (length rs))
+    (λ i. (i < length rs) × HoldsAt (λ r. has_key k r ≡ true) rs i × AllWithin (λ r. has_key k r ≡ false) rs 0 i)
+    → unwrap_or o (length rs) ≡ key_place k rs
+place_is k rs None h = sym (place_none k rs (λ i b. h i blank_record (omega arith) b))
+place_is k rs (Some i) h = sym (place_at k rs i h.0 (λ j b. h.2 j blank_record (omega arith) b) (h.1 blank_record))
 
 -- the first that has the key
 record Hit (k : Key) (rs : List Record) : Type 0 where
