@@ -7,7 +7,7 @@ ghost use Rattle.skyline.specs.Skyline.{Outline, outline, lent, stored, Whole, S
 use crate::skyline_packer;
 
 // Segment i has the columns from xs[i] up to xs[i + 1] and the height ys[i]; xs[n] is the area's edge. The slices are of any
-// length that has these places: one more of xs than of ys.
+// length that has these places: n + 1 in xs, n in ys. Where a segment may come to be, a place more in each.
 #[derive(Clone, Copy)]
 pub struct Segments<'a> {
     pub xs: &'a [u32],
@@ -15,7 +15,7 @@ pub struct Segments<'a> {
     pub n: usize,
 }
 
-// The same in places of its own, which are lent to the functions on slices. The packing core has no heap, so there are as many
+// The same in places of its own, which it lends to the functions on slices. The packing core has no heap, so there are as many
 // as a page of 256 images needs: 257 segments, and the edge. A skyline is 2 KB, and lent wherever it is used.
 #[derive(Clone, Copy)]
 pub struct Skyline {
