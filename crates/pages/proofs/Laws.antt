@@ -74,6 +74,35 @@ module _ (cells : ℕ → List Rect) (area : Size) (rotation : Bool) (cell : Siz
 
 -- ## empty pages
 
+-- the first n are
+pub record Cleared (W n : ℕ) (k : Pages) : Type 0 where
+  pub eight : length k.skylines ≡ 8
+  pub whole : (p : ℕ) → p < n → Whole (page_of p k)
+  pub holds : (p : ℕ) → p < n → Holds W [] (stored (page_of p k))
+
+pub cleared_none : (w : ℕ) (k : Pages) → length k.skylines ≡ 8 → Cleared w 0 k
+cleared_none w k e = record { eight = e; whole = λ p h. absurd (omega arith); holds = λ p h. absurd (omega arith) }
+
+-- one page more
+module _ (w n : ℕ) (old : Pages) (new : Skyline) (h : n < 8) (wh : Whole new) (hd : Holds w [] (stored new)) (s : Cleared w n old) where
+  clear_whole : (q : ℕ) → q < n + 1 → Dec (q ≡ n) → Whole (page_of q (record { skylines = set old.skylines n new }))
+  clear_whole q b (yes e) = rw (e, get_or-set_same old.skylines n new (record { xs = []; ys = []; n = 0 }) (omega (arith, s.eight))) wh
+  clear_whole q b (no e) = rw (get_or-set_other old.skylines n q new (record { xs = []; ys = []; n = 0 }) e) (s.whole q (omega (arith, e)))
+
+  clear_holds : (q : ℕ) → q < n + 1 → Dec (q ≡ n) → Holds w [] (stored (page_of q (record { skylines = set old.skylines n new })))
+  clear_holds q b (yes e) = rw (e, get_or-set_same old.skylines n new (record { xs = []; ys = []; n = 0 }) (omega (arith, s.eight))) hd
+  clear_holds q b (no e) = rw (get_or-set_other old.skylines n q new (record { xs = []; ys = []; n = 0 }) e) (s.holds q (omega (arith, e)))
+
+  pub cleared_more : Cleared w (n + 1) (record { skylines = set old.skylines n new })
+  cleared_more = record {
+    eight = length-set old.skylines n new ∙ s.eight;
+    whole = λ q b. clear_whole q b (ℕ_discrete q n);
+    holds = λ q b. clear_holds q b (ℕ_discrete q n);
+  }
+
+pub cleared_all : (w n : ℕ) (k : Pages) → 8 ≤ n → Cleared w n k → Fresh w k
+cleared_all w n k b s = record { eight = s.eight; whole = λ p h. s.whole p (omega arith); holds = λ p h. s.holds p (omega arith) }
+
 -- they stand with no cells
 pub fresh_stands : (w : ℕ) (cells : ℕ → List Rect) (k : Pages) → ((p : ℕ) → cells p ≡ []) → Fresh w k → Stands w cells 0 k
 fresh_stands w cells k e fr = record {

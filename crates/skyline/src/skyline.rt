@@ -19,9 +19,9 @@ pub struct Segments<'a> {
 // as a page of 256 images needs: 257 segments, and the edge. A skyline is 2 KB, and lent wherever it is used.
 #[derive(Clone, Copy)]
 pub struct Skyline {
-    pub(crate) xs: [u32; 258],
-    pub(crate) ys: [u32; 258],
-    pub(crate) n: usize,
+    pub xs: [u32; 258],
+    pub ys: [u32; 258],
+    pub n: usize,
 }
 
 // The columns from the skyline's edge up to e added at height y: the last segment made longer if it has that height, or
@@ -126,6 +126,16 @@ impl Skyline {
         let mut ys = [0; 258];
         skyline_packer::new(&mut xs, &mut ys, w);
         Skyline { xs, ys, n: 1 }
+    }
+
+    // The same, written over what it was.
+    pub fn clear(&mut self, w: u32)
+        requires { 0 < w }
+        ensures holds { Holds w [] (stored self.new) }
+        ensures whole { Whole self.new }
+    {
+        skyline_packer::new(&mut self.xs, &mut self.ys, w);
+        self.n = 1;
     }
 
     // Its segments, lent.
