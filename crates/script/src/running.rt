@@ -59,10 +59,10 @@ fn step<'a>(
     script: &'a [u8],
     stores: Stores<'a>,
     answers: &mut [u8],
-    s: Step,
+    s: &Step,
 ) -> Result<Step, Ended>
-    requires { (s.next < length script.now) × (s.written + 12 ≤ length answers.old) }
-    ensures { Does (stepped script.now (lent stores.entry) (length answers.old) (take s.written answers.old) s.next s.layout) s.written answers.old answers.new result }
+    requires { (s.now.next < length script.now) × (s.now.written + 12 ≤ length answers.old) }
+    ensures { Does (stepped script.now (lent stores.entry) (length answers.old) (take s.now.written answers.old) s.now.next s.now.layout) s.now.written answers.old answers.new result }
 {
     let left = script.len() - s.next;
     if left < 4 {
@@ -106,7 +106,7 @@ pub fn run_commands<'a>(script: &'a [u8], stores: Stores<'a>, answers: &mut [u8]
         written: 0,
     };
     while s.next < script.len() {
-        match step(script, stores, answers, s) {
+        match step(script, stores, answers, &s) {
             Ok(after) => s = after,
             Err(ended) => return finish(answers, s.written, u32::from(ended), s.next),
         }
