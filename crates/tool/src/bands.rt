@@ -169,11 +169,7 @@ impl Sheet<'_> {
     pub fn write_page<F: Write>(&self, file: &mut F, buf: &mut [u8]) -> Result<(), Fault> {
         self.each_band(buf, |rows, band| {
             self.compose(rows, band)?;
-            if system::write_all(file, band) {
-                Ok(())
-            } else {
-                Err(Fault::Unwritten)
-            }
+            system::write_all(file, band).map_err(|_| Fault::Unwritten)
         })
     }
 

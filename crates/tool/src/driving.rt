@@ -26,6 +26,10 @@ const STORE: usize = 1048576;
 // A page is composed and checked in as many rows as this holds.
 const BAND: usize = 65536;
 
+// A job that is not packed or verified: what is wrong is said already.
+#[derive(Clone, Copy)]
+struct Said;
+
 // A folder that std cannot name is refused before its pages are: where nothing in it can be looked at or removed, a job without pages would pass.
 fn do_pages(
     rt: &(impl Files + Print),
@@ -33,26 +37,27 @@ fn do_pages(
     folder: &[u8],
     pages: Pages<'_>,
     band: &mut [u8],
-) -> bool {
+) -> Result<(), Said> {
     let Ok(name) = str::from_utf8(folder) else {
         telling::say_of(rt, folder, "cannot be opened");
-        return false;
+        return Err(Said);
     };
     let files = PageFolder {
         name: folder,
         pages,
     };
-    match program {
+    let good = match program {
         Program::Pack => {
             // A folder that is there already stays.
             let _ = fs::create_dir(rt, name);
             files.pack(rt, band)
         }
         Program::Verify => files.verify_all(rt, band),
-    }
+    };
+    if good { Ok(()) } else { Err(Said) }
 }
 
-// The job as it is laid out, where all is well with it; what is not is said. A refused image ends it before any page is written.
+// The job as it is laid out. A refused image ends it before any page is written.
 fn do_job(
     rt: &(impl Files + Print),
     program: Program,
@@ -61,35 +66,32 @@ fn do_job(
     symbols: &mut [u8],
     wording: &mut [u8],
     band: &mut [u8],
-) -> Option<Layout> {
-    let Ready { job, stores } = preparing::prepare(rt, names, text, symbols, wording)?;
+) -> Result<Layout, Said> {
+    let Ready { job, stores } = preparing::prepare(rt, names, text, symbols, wording).ok_or(Said)?;
     let laid = laying::lay_out(stores, job);
     if let Program::Pack = program {
         placing::say_places(rt, &laid.layout);
     }
     if let Err(stop) = laid.answer {
         placing::say_stop(rt, names.job, &job, stop);
-        return None;
+        return Err(Said);
     }
     let pages = Pages {
         layout: &laid.layout,
         stores,
         background: job.background,
     };
-    if do_pages(rt, program, names.folder, pages, band) {
-        Some(laid.layout)
-    } else {
-        None
-    }
+    do_pages(rt, program, names.folder, pages, band)?;
+    Ok(laid.layout)
 }
 
-fn say_verdict(rt: &impl Print, program: Program, name: &[u8], done: Option<Layout>) {
+fn say_verdict(rt: &impl Print, program: Program, name: &[u8], done: Result<Layout, Said>) {
     let (good, bad) = match program {
         Program::Pack => ("packed", "NOT PACKED"),
         Program::Verify => ("verified", "NOT VERIFIED"),
     };
     match done {
-        Some(layout) => {
+        Ok(layout) => {
             let images = layout.count;
             let pages = page_folder::count_pages(&layout);
             telling::say_of(
@@ -98,7 +100,7 @@ fn say_verdict(rt: &impl Print, program: Program, name: &[u8], done: Option<Layo
                 format_args!("{good}, images: {images}, pages: {pages}"),
             );
         }
-        None => telling::say_of(rt, name, bad),
+        Err(Said) => telling::say_of(rt, name, bad),
     }
 }
 

@@ -25,17 +25,17 @@ pub fn read_full<F: Read>(file: &mut F, buf: &mut [u8]) -> usize
     done
 }
 
-// Writes all of the bytes; or stops at the first write that takes nothing or fails, and answers false.
-pub fn write_all<F: Write>(file: &mut F, bytes: &[u8]) -> bool {
+// Writes all of the bytes; or stops at the first write that takes nothing or fails, which is an error.
+pub fn write_all<F: Write>(file: &mut F, bytes: &[u8]) -> io::Result<()> {
     let mut done = 0;
     while done < bytes.len() {
-        let n = file.write(&bytes[done..]).unwrap_or(0);
+        let n = file.write(&bytes[done..])?;
         if n == 0 {
-            return false;
+            return Err(io::Error::from(ErrorKind::WriteZero));
         }
         done += n;
     }
-    true
+    Ok(())
 }
 
 // std takes a path as text: bytes that are not UTF-8 name no file here.
