@@ -6,6 +6,7 @@ use mathlib.Core.Bool.{Bool, true, false}
 use mathlib.Core.List.{List, [], ◌∷◌}
 use mathlib.Core.Option.{Option, none, some}
 use mathlib.Core.Logic.{◌⊎◌, inl, inr}
+use borrow.Author.Count.{below_more}
 use lib.ListN.{length, get_or}
 use Rattle.std.specs.Prelude.{Option as Found, Some, None}
 use Rattle.std.specs.Option.{MatchOption, unwrap_or}
@@ -25,6 +26,9 @@ use Rattle.records.proofs.Rows.{at_in}
 -- none before index n has the key
 abbrev pub Misses : Key → List Record → ℕ → Type 0
 Misses k rs n = (i : ℕ) → i < n → has_key k (get_or rs i blank_record) ≡ false
+
+pub misses_more : (k : Key) (rs : List Record) (i : ℕ) → Misses k rs i → has_key k (get_or rs i blank_record) ≡ false → Misses k rs (i + 1)
+misses_more k rs i m e = below_more (λ (j : ℕ). has_key k (get_or rs j blank_record) ≡ false) i m e
 
 module _ (k : Key) (rs : List Record) where
   pub place_at : (i : ℕ) → i < length rs → Misses k rs i → has_key k (get_or rs i blank_record) ≡ true → key_place k rs ≡ i
