@@ -17,7 +17,7 @@ code_of CutShort = 2
 code_of NoRoom = 3
 code_of PastSource = 4
 
--- where a run is after a command, which is told apart from why it ended
+-- what a command that works on the run's Step leaves: where the run has come to, or why it ends
 abbrev pub reached : Result ⊤ Ended → Step → Result Step Ended
 reached (Ok done) s = Ok s
 reached (Err e) s = Err e
