@@ -65,6 +65,6 @@ returns c =
     let e = c.words.ensures.value in
     let names = c.in_ok-command.ensures.0 in
     let below = c.in_ok-command.ensures.1 in
-    does_as a.s.now.written a.answers.now c.run_command.result (here (goal.at.returns c).Start) _ _
+    does_as a.s.now.written a.answers.now _ (here (goal.at.returns c).Start) _ _
     (step-runs a.script.now (lent a.stores) _ _ a.s.now.next a.s.now.layout n (is (goal.at.returns c).After-word_at ∙ sym names) (omega arith) (omega arith) (omega arith))
     c.run_command.ensures
