@@ -1,18 +1,12 @@
 -- What the private functions compute: one step, one place. Nothing here says what a job is.
 -- Assumes nothing.
-use Rattle.std.specs.Prelude.{ℕ, ◌+◌, ◌*◌, ◌-◌, Bool, cond, ◌&&◌, List, Option, Some, None, Result, Ok, Err, option_and_then, eqb, leb, length}
-use Rattle.std.specs.Bool.{⊤}
+use Rattle.std.specs.Prelude.{ℕ, ◌+◌, ◌*◌, ◌-◌, Bool, cond, ◌&&◌, List, Option, Some, None, option_and_then, eqb, leb, length}
 use Rattle.art.specs.declared.memory_rgba8_texture.Image.{Image}
 use Rattle.art.specs.declared.memory_rgba8_texture.Store.{Store}
 use Rattle.records.specs.declared.texture_packer_config.Config.{Config}
 use Rattle.paint.specs.declared.background.Colour.{Colour}
 use Rattle.job.specs.Numbers.{is_digit, number_in}
 use Rattle.job.specs.Words.{word, is_part, to_part, is_switch, to_switch, is_store, to_store, is_threshold, to_threshold}
-
--- what a call leaves that works on a state in place: the state, or what it refuses it for
-abbrev pub left : {S E : Type 0} → Result ⊤ E → S → Result S E
-left (Ok u) s = Ok s
-left (Err e) s = Err e
 
 -- the value, where the test holds
 abbrev pub where_so : {A : Type 0} → Bool → A → Option A

@@ -2,7 +2,7 @@
 ghost use Rattle.std.specs.Prelude.{◌≡◌, ◌≤◌, ◌<◌, IfOk};
 ghost use Rattle.job.specs.Lines.{line_in};
 ghost use Rattle.job.specs.Jobs.{blank_entry, opened_job, entered, with_config, with_ground, next_image, with_image, stepped, taken, after, ended, lines_in, job_in};
-ghost use Rattle.job.specs.Steps.{left};
+ghost use Rattle.geometry.specs.Words.{reached};
 ghost use Rattle.job.specs.declared.reading.State.TheVariants.{Start};
 
 use crate::lines;
@@ -87,7 +87,7 @@ fn entered_job(mut job: Job, key: Key, image: Image, line: usize) -> Job
 
 #[tactic(auto, unfolding(crate::specs::Jobs::with_config))]
 fn with_config(config: Config, n: usize, state: &mut State) -> Result<(), Trouble>
-    ensures { left result state.new ≡ with_config config n state.old }
+    ensures { reached result state.new ≡ with_config config n state.old }
 {
     match *state {
         State::Start => {
@@ -100,7 +100,7 @@ fn with_config(config: Config, n: usize, state: &mut State) -> Result<(), Troubl
 
 #[tactic(auto, unfolding(crate::specs::Jobs::with_ground, crate::specs::Jobs::grounded))]
 fn with_ground(background: Background, state: &mut State) -> Result<(), Trouble>
-    ensures { left result state.new ≡ with_ground background state.old }
+    ensures { reached result state.new ≡ with_ground background state.old }
 {
     match *state {
         State::Start => Err(Trouble::NoConfig),
@@ -124,7 +124,7 @@ fn next_image(key: Key, image: Image, n: usize, job: Job) -> Result<State, Troub
 
 #[tactic(auto, unfolding(crate::specs::Jobs::with_image))]
 fn with_image(key: Key, image: Image, n: usize, state: &mut State) -> Result<(), Trouble>
-    ensures { left result state.new ≡ with_image key image n state.old }
+    ensures { reached result state.new ≡ with_image key image n state.old }
 {
     match *state {
         State::Start => Err(Trouble::NoConfig),
@@ -138,7 +138,7 @@ fn with_image(key: Key, image: Image, n: usize, state: &mut State) -> Result<(),
 // The state after what line n says, in place: a job is 9 KB, and a line that says nothing copies none of it.
 #[tactic(auto, unfolding(crate::specs::Jobs::stepped))]
 fn step(n: usize, line: Line, state: &mut State) -> Result<(), Trouble>
-    ensures { left result state.new ≡ stepped n line state.old }
+    ensures { reached result state.new ≡ stepped n line state.old }
 {
     match line {
         Line::Empty => Ok(()),
@@ -151,7 +151,7 @@ fn step(n: usize, line: Line, state: &mut State) -> Result<(), Trouble>
 // The state after line n, or its trouble.
 #[tactic(auto, unfolding(crate::specs::Jobs::taken))]
 fn read_line(n: usize, line: &[u8], state: &mut State) -> Result<(), Malformed>
-    ensures { left result state.new ≡ taken n (line_in line.now) state.old }
+    ensures { reached result state.new ≡ taken n (line_in line.now) state.old }
 {
     let at_line = |trouble| Malformed { trouble, line: n };
     let said = lines::line_of(line).map_err(at_line)?;

@@ -17,11 +17,6 @@ code_of CutShort = 2
 code_of NoRoom = 3
 code_of PastSource = 4
 
--- what a command that works on the run's Step leaves: where the run has come to, or why it ends
-abbrev pub reached : Result ⊤ Ended → Step → Result Step Ended
-reached (Ok done) s = Ok s
-reached (Err e) s = Err e
-
 -- A command that goes on leaves its layout, the place of the next command, and the bytes of answers written in all; one that ends the run, why.
 abbrev pub Leaves : ℕ → Stepped → Result Step Ended → Type 0
 Leaves written (GoesOn l next bytes) r = r ≡ Ok (record { layout = l; next = next; written = written + length bytes })

@@ -4,7 +4,8 @@ ghost use Rattle.art.specs.Stores.{lent};
 ghost use Rattle.wire.specs.Bytes.{put};
 ghost use Rattle.commands.specs.Reading.{word};
 ghost use Rattle.script.specs.Stepping.{composed_bytes, compose_outcome, compose_pixels, compose_step, row_step};
-ghost use Rattle.script.specs.Doing.{reached, Does, composed_size};
+ghost use Rattle.geometry.specs.Words.{reached};
+ghost use Rattle.script.specs.Doing.{Does, composed_size};
 
 use crate::steps;
 use crate::steps::{Ended, Step};

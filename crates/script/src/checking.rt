@@ -2,7 +2,8 @@
 ghost use Rattle.std.specs.Prelude.{◌≡◌, ◌+◌, ◌≤◌, length, take};
 ghost use Rattle.art.specs.Stores.{lent};
 ghost use Rattle.script.specs.Stepping.{check_source, check_past, check_numbers, check_step};
-ghost use Rattle.script.specs.Doing.{reached, Does, Checks};
+ghost use Rattle.geometry.specs.Words.{reached};
+ghost use Rattle.script.specs.Doing.{Does, Checks};
 
 use crate::steps;
 use crate::steps::{Ended, Step};

@@ -6,7 +6,8 @@ ghost use Rattle.wire.specs.Bytes.{put};
 ghost use Rattle.commands.specs.Taking.{command_number, words_of, There};
 ghost use Rattle.script.specs.Stepping.{end_bytes, command_step, stepped};
 ghost use Rattle.script.specs.Running.{ran};
-ghost use Rattle.script.specs.Doing.{reached, Does};
+ghost use Rattle.geometry.specs.Words.{reached};
+ghost use Rattle.script.specs.Doing.{Does};
 
 use crate::steps::{Ended, Step};
 use crate::{bytes, checking, steps, telling};

@@ -2,7 +2,8 @@
 ghost use Rattle.std.specs.Prelude.{◌≡◌, [], ◌∷◌, ◌+◌, ◌*◌, ◌≤◌, ◌<◌, length, take};
 ghost use Rattle.wire.specs.Bytes.{words_bytes, put};
 ghost use Rattle.script.specs.Stepping.{answer_bytes, saying, set_step, data_step};
-ghost use Rattle.script.specs.Doing.{code_of, reached, Leaves, Does};
+ghost use Rattle.geometry.specs.Words.{reached};
+ghost use Rattle.script.specs.Doing.{code_of, Leaves, Does};
 ghost use Rattle.script.specs.declared.steps.Ended.TheVariants.{Unknown};
 
 use commands::command::{NoCommand, Words};

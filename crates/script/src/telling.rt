@@ -3,7 +3,8 @@ ghost use Rattle.std.specs.Prelude.{◌≡◌, [], ◌+◌, ◌≤◌, length, t
 ghost use Rattle.art.specs.Stores.{lent};
 ghost use Rattle.commands.specs.Telling.{open_told, ask_told, offer_told, withdraw_told, size_told, pixel_told, locate_told};
 ghost use Rattle.script.specs.Stepping.{answer_bytes, saying, telling};
-ghost use Rattle.script.specs.Doing.{reached, Does};
+ghost use Rattle.geometry.specs.Words.{reached};
+ghost use Rattle.script.specs.Doing.{Does};
 
 use crate::steps;
 use crate::steps::{Ended, Step};

@@ -10,7 +10,7 @@ use Rattle.std.proofs.lemmas.Iterator.Consumers.{YieldsList-from_enumerate, Yiel
 use Rattle.std.proofs.lemmas.Iterator.Splits.{YieldsList-from_slice_split}
 use Rattle.job.specs.Bytes.{is_feed}
 use Rattle.job.specs.Jobs.{unless_malformed, after, lines_in}
-use Rattle.job.specs.Steps.{left}
+use Rattle.geometry.specs.Words.{reached}
 use Rattle.job.specs.declared.reading.Malformed.{Malformed}
 use Rattle.job.proofs.Readings.{numbered, taken_here, none_left}
 use Rattle.job.proofs.reading.read_lines.Goals.{In-Some, In-None}
@@ -39,7 +39,7 @@ returns-in_err-read_line c =
     ∙ sym
     (c.loop-i.invariant.2
     ∙ taken_here text k c.in-Some.i c.in-Some.line.now t.0 t.1 c.loop-i.state c.read_line.ensures
-    ∙ ap (λ (r : Result ⊤ Malformed). unless_malformed (after (k + 1 + 1) (drop (k + 1) (lines_in text))) (left r c.read_line.new.state)) c.in_err-read_line.was)
+    ∙ ap (λ (r : Result ⊤ Malformed). unless_malformed (after (k + 1 + 1) (drop (k + 1) (lines_in text))) (reached r c.read_line.new.state)) c.in_err-read_line.was)
 
 grown : {A : Type 0} (xs : List A) (x : A) → length (xs ++ x ∷ []) ≡ length xs + 1
 grown xs x = omega (arith, length-append xs (x ∷ []))
@@ -54,7 +54,7 @@ loop-i-preserved c =
       search rules,
       c.loop-i.invariant.2
           ∙ taken_here text k c.in-Some.i c.in-Some.line.now t.0 t.1 c.loop-i.state c.read_line.ensures
-          ∙ ap (λ (r : Result ⊤ Malformed). unless_malformed (after (k + 1 + 1) (drop (k + 1) (lines_in text))) (left r c.read_line.new.state)) c.in_ok-read_line.was
+          ∙ ap (λ (r : Result ⊤ Malformed). unless_malformed (after (k + 1 + 1) (drop (k + 1) (lines_in text))) (reached r c.read_line.new.state)) c.in_ok-read_line.was
           ∙ ap (λ (n : ℕ). after (n + 1) (drop n (lines_in text)) c.read_line.new.state) (sym one),
     )
 
