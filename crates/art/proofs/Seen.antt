@@ -1,7 +1,7 @@
 -- Searching the numbers below a bound: the one law for columns and for rows, and for the pixels of each. Assumes nothing.
 use Prim.Native.Nat.{ℕ, zero, suc, ◌+◌, ◌-◌, ◌≤◌, ◌<◌}
 use native.Mathlib.Omega.{arith}
-use native.Mathlib.Decide.{dec_lt}
+use native.Mathlib.Decide.{dec_lt, ℕ_discrete}
 use mathlib.Core.Path.{◌≡◌, refl, sym, ap, ◌∙◌, subst}
 use mathlib.Core.Bool.{Bool, true, false, not}
 use mathlib.Core.Logic.{◌⊎◌, inl, inr}
@@ -57,6 +57,13 @@ module _ (t : ℕ → Bool) where
       let b : h.0 < n = omega (arith, h.1, length-range_with_len 0 n) in
       let z : 0 + h.0 ≡ h.0 = omega arith in
       ap not (sym (seen n h.0 b (ap t (sym z ∙ sym (get_or-range_with_len 0 n h.0 0 b)) ∙ h.2 0)))
+
+pub above_more : (P : ℕ → Type 0) (k : ℕ) → 0 < k → ((j : ℕ) → k ≤ j → P j) → P (k - 1) → (j : ℕ) → k - 1 ≤ j → P j
+above_more P k h above here j l = go (ℕ_discrete (k - 1) j)
+  where
+    go : Dec (k - 1 ≡ j) → P j
+    go (yes e) = subst P e here
+    go (no ne) = above j (omega arith)
 
 -- ## the first and the last of them
 

@@ -22,7 +22,14 @@ fn all_zero(bytes: &[u8], first: usize, step: usize, count: usize) -> bool
     requires { HasRun bytes.now first step count }
     ensures { result ≡ not (any_set bytes.now first step count) }
 {
-    (0..count).all(|k| bytes[first + k * step] == 0)
+    let mut at = first;
+    for k in 0..count {
+        if bytes[at] != 0 {
+            return false;
+        }
+        at += step;
+    }
+    true
 }
 
 pub fn is_column_transparent(stores: Stores<'_>, image: Image, col: u32) -> bool

@@ -1,21 +1,23 @@
 -- Lent rows that agree with a picture, pixel by pixel, and the first that does not. Assumes nothing.
-use Prim.Native.Nat.{ℕ, ◌+◌, ◌*◌, ◌≤◌, ◌<◌}
+use Prim.Native.Nat.{ℕ, ◌+◌, ◌*◌, ◌-◌, ◌≤◌, ◌<◌}
 use native.Mathlib.Omega.{arith}
 use mathlib.Core.Path.{◌≡◌, refl, sym, ap, ◌∙◌, subst}
 use mathlib.Core.Bool.{Bool, true, false, cond, not}
 use mathlib.Core.List.{List}
-use lib.ListN.{length}
+use lib.ListN.{length, take, drop}
 use lib.Dec.{ltb}
 use borrow.Author.Tests.{ltb-true, ltb-false, eqb-true, eq-eqb, not-false}
 use Rattle.std.specs.Prelude.{Option as Maybe, Some, None}
 use Rattle.geometry.proofs.Words.{not_both}
+use Rattle.art.specs.Stores.{pixel_from}
 use Rattle.art.specs.Trimming.{first_seen}
 use Rattle.art.specs.declared.memory_rgba8_texture.Pixel.{Pixel}
 use Rattle.art.proofs.Seen.{first-is, first-none, first_below, first-le}
 use Rattle.records.proofs.Rows.{all_of_lem, of_all}
 use Rattle.paint.specs.Painting.{pixel_no, Shows}
 use Rattle.compose.specs.Checking.{same_pixel, differs, column_off, row_off, compared}
-use Rattle.compose.proofs.Comparing.{all_same, first-differs}
+use Rattle.compose.specs.Comparing.{off_at}
+use Rattle.compose.proofs.Comparing.{all_same, first-differs, part-pixel}
 
 -- ## one pixel
 
@@ -33,6 +35,18 @@ same-pixels : (k j : Pixel) → k ≡ j → same_pixel k j ≡ true
 unfolding same_pixel
 same-pixels k j e =
     of_all _ (eq-eqb k.r j.r (ap (λ (p : Pixel). p.r) e), (eq-eqb k.g j.g (ap (λ (p : Pixel). p.g) e), (eq-eqb k.b j.b (ap (λ (p : Pixel). p.b) e), (eq-eqb k.a j.a (ap (λ (p : Pixel). p.a) e), tt))))
+
+-- rows of the same bytes, w pixels wide, from pixel number `base` on, differ nowhere
+pub alike : (shown wanted : List ℕ) (base w : ℕ)
+    → take (4 * base + 4 * w - 4 * base) (drop (4 * base) shown) ≡ take (4 * base + 4 * w - 4 * base) (drop (4 * base) wanted)
+    → (k : ℕ) → k < w → off_at shown wanted base k ≡ false
+alike shown wanted base w e k h =
+    let m = 4 * base + 4 * w - 4 * base in
+    let at : 4 * (base + k) ≡ 4 * base + 4 * k = omega arith in
+    let one = part-pixel shown (4 * base) m (4 * k) (omega arith) in
+    let two = part-pixel wanted (4 * base) m (4 * k) (omega arith) in
+    let same : pixel_from shown (4 * base + 4 * k) ≡ pixel_from wanted (4 * base + 4 * k) = sym one ∙ ap (λ (l : List ℕ). pixel_from l (4 * k)) e ∙ two in
+    ap not (same-pixels _ _ (ap (λ (i : ℕ). pixel_from shown i) at ∙ same ∙ ap (λ (i : ℕ). pixel_from wanted i) (sym at)))
 
 module _ (f : ℕ → ℕ → Pixel) (shown : List ℕ) (base y x : ℕ) where
   agrees : differs f shown base y x ≡ false → pixel_no shown (base + x) ≡ f x y

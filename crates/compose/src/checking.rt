@@ -33,6 +33,11 @@ fn first_off(shown: &[u8], wanted: &[u8], base: usize, w: u32) -> Option<u32>
     ensures { MatchOption result (first_seen (off_at shown.now wanted.now base) w ≡ w)
         (λ x. (x < w) × (x ≡ first_seen (off_at shown.now wanted.now base) w)) }
 {
+    let from = 4 * base;
+    let to = from + 4 * w as usize;
+    if shown[from..to] == wanted[from..to] {
+        return None;
+    }
     for x in 0..w {
         let i = base + x as usize;
         if !same_pixel(shown, i, wanted, i) {

@@ -48,7 +48,7 @@ pub fn replay(l: WellFormed<'_>, skies: &mut Pages) -> Option<usize>
     ensures { Ran l.entry.layout.now result skies.new }
 {
     let c = l.config();
-    *skies = Pages::new(c.config.maxw);
+    skies.fresh(c.config.maxw);
     let mut pages = 0;
     for r in l.standing() {
         if !replay_one(skies, c, pages, *r) {

@@ -1,6 +1,6 @@
 -- Words that the rules are written in: numbers in order, tests over a list, the greatest, the earliest.
 -- Assumes nothing.
-use Rattle.std.specs.Prelude.{ℕ, zero, suc, max, Bool, true, false, cond, ◌&&◌, ◌||◌, List, [], ◌∷◌, ◌++◌, leb, ltb, eqb}
+use Rattle.std.specs.Prelude.{ℕ, zero, suc, max, ⊤, Result, Ok, Err, Bool, true, false, cond, ◌&&◌, ◌||◌, List, [], ◌∷◌, ◌++◌, leb, ltb, eqb}
 use Rattle.std.proofs.Math.Option.{Option, none, some}
 
 -- n numbers, one after the other, the first of them i
@@ -57,3 +57,8 @@ unfoldable pub before : List ℕ → List ℕ → Bool
 before [] bs = false
 before (a ∷ as') [] = false
 before (a ∷ as') (b ∷ bs) = ltb a b || (eqb a b && before as' bs)
+
+-- what a call that works in place has come to: the new state, or what it was refused for
+abbrev pub reached : {S E : Type 0} → Result ⊤ E → S → Result S E
+reached (Ok done) s = Ok s
+reached (Err e) s = Err e

@@ -2,6 +2,7 @@
 ghost use Rattle.std.specs.Prelude.{◌≡◌, ◌≤◌, ◌<◌, IfOk};
 ghost use Rattle.job.specs.Lines.{line_in};
 ghost use Rattle.job.specs.Jobs.{blank_entry, opened_job, entered, with_config, with_ground, next_image, with_image, stepped, taken, after, ended, lines_in, job_in};
+ghost use Rattle.geometry.specs.Words.{reached};
 ghost use Rattle.job.specs.declared.reading.State.TheVariants.{Start};
 
 use crate::lines;
@@ -85,22 +86,28 @@ fn entered_job(mut job: Job, key: Key, image: Image, line: usize) -> Job
 }
 
 #[tactic(auto, unfolding(crate::specs::Jobs::with_config))]
-fn with_config(config: Config, n: usize, state: State) -> Result<State, Trouble>
-    ensures { result ≡ with_config config n state }
+fn with_config(config: Config, n: usize, state: &mut State) -> Result<(), Trouble>
+    ensures { reached result state.new ≡ with_config config n state.old }
 {
-    match state {
-        State::Start => Ok(State::Open(opened_job(config, n))),
+    match *state {
+        State::Start => {
+            *state = State::Open(opened_job(config, n));
+            Ok(())
+        }
         State::Open(_) | State::Closed(_) => Err(Trouble::SecondConfig),
     }
 }
 
 #[tactic(auto, unfolding(crate::specs::Jobs::with_ground, crate::specs::Jobs::grounded))]
-fn with_ground(background: Background, state: State) -> Result<State, Trouble>
-    ensures { result ≡ with_ground background state }
+fn with_ground(background: Background, state: &mut State) -> Result<(), Trouble>
+    ensures { reached result state.new ≡ with_ground background state.old }
 {
-    match state {
+    match *state {
         State::Start => Err(Trouble::NoConfig),
-        State::Open(job) => Ok(State::Closed(Job { background, ..job })),
+        State::Open(job) => {
+            *state = State::Closed(Job { background, ..job });
+            Ok(())
+        }
         State::Closed(_) => Err(Trouble::LateBackground),
     }
 }
@@ -116,22 +123,25 @@ fn next_image(key: Key, image: Image, n: usize, job: Job) -> Result<State, Troub
 }
 
 #[tactic(auto, unfolding(crate::specs::Jobs::with_image))]
-fn with_image(key: Key, image: Image, n: usize, state: State) -> Result<State, Trouble>
-    ensures { result ≡ with_image key image n state }
+fn with_image(key: Key, image: Image, n: usize, state: &mut State) -> Result<(), Trouble>
+    ensures { reached result state.new ≡ with_image key image n state.old }
 {
-    match state {
+    match *state {
         State::Start => Err(Trouble::NoConfig),
-        State::Open(job) | State::Closed(job) => next_image(key, image, n, job),
+        State::Open(job) | State::Closed(job) => {
+            *state = next_image(key, image, n, job)?;
+            Ok(())
+        }
     }
 }
 
-// The state after what line n says.
+// The state after what line n says, in place: a job is 9 KB, and a line that says nothing copies none of it.
 #[tactic(auto, unfolding(crate::specs::Jobs::stepped))]
-fn step(n: usize, line: Line, state: State) -> Result<State, Trouble>
-    ensures { result ≡ stepped n line state }
+fn step(n: usize, line: Line, state: &mut State) -> Result<(), Trouble>
+    ensures { reached result state.new ≡ stepped n line state.old }
 {
     match line {
-        Line::Empty => Ok(state),
+        Line::Empty => Ok(()),
         Line::Settings(config) => with_config(config, n, state),
         Line::Ground(background) => with_ground(background, state),
         Line::Picture(key, image) => with_image(key, image, n, state),
@@ -140,8 +150,8 @@ fn step(n: usize, line: Line, state: State) -> Result<State, Trouble>
 
 // The state after line n, or its trouble.
 #[tactic(auto, unfolding(crate::specs::Jobs::taken))]
-fn read_line(n: usize, line: &[u8], state: State) -> Result<State, Malformed>
-    ensures { result ≡ taken n (line_in line.now) state }
+fn read_line(n: usize, line: &[u8], state: &mut State) -> Result<(), Malformed>
+    ensures { reached result state.new ≡ taken n (line_in line.now) state.old }
 {
     let at_line = |trouble| Malformed { trouble, line: n };
     let said = lines::line_of(line).map_err(at_line)?;
@@ -154,7 +164,7 @@ fn read_lines(text: &[u8]) -> Result<State, Malformed>
 {
     let mut state = State::Start;
     for (i, line) in text.split(|b| *b == b'\n').enumerate() {
-        state = read_line(i + 1, line, state)?;
+        read_line(i + 1, line, &mut state)?;
     }
     Ok(state)
 }

@@ -147,6 +147,14 @@ module _ (l : Layout) (s : Stores) (k : Key) (y : ℕ) where
   read_done e = sym (ap read_answer e)
 
   -- and back: what the answer says of the row
+  pub done-read : read l s k y ≡ Ok tt → read_refusal l s k y ≡ none
+  unfolding read
+  done-read e = go (read_refusal l s k y) e
+    where
+      go : (o : Option Refusal) → read_answer o ≡ Ok tt → o ≡ none
+      go none q = refl
+      go (some n) q = absurd cc
+
   pub refused-read : (r : Refusal) → read l s k y ≡ Err r → read_refusal l s k y ≡ some r
   unfolding read
   refused-read r e = go (read_refusal l s k y) e

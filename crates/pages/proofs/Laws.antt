@@ -16,7 +16,7 @@ use Rattle.geometry.specs.Words.{or_else}
 use Rattle.geometry.specs.Placing.{height, spot_for, is_found, grown}
 use Rattle.geometry.proofs.Words.{earliest-at, earliest-none}
 use Rattle.skyline.specs.declared.skyline.Skyline.{Skyline}
-use Rattle.skyline.specs.Skyline.{Holds, Put}
+use Rattle.skyline.specs.Skyline.{stored, Whole, Holds, Put}
 use Rattle.pages.specs.declared.Pages.{Pages}
 use Rattle.pages.specs.Pages.{first_fitting, page_of, Stands, PutOn, Fresh}
 
@@ -27,9 +27,13 @@ one_more cells (Some k) m l = simp length-append (omega arith)
 
 -- the skyline of one page anew
 module _ (area : Size) (rotation : Bool) (cell : Size) (p m : ℕ) (cells : ℕ → List Rect) (old : Pages) (new : Skyline) (r : Option Spot)
-    (h : p < 8) (st : Stands area.w cells m old) (pt : Put area rotation cell (cells p) r new) where
+    (h : p < 8) (st : Stands area.w cells m old) (wh : Whole new) (pt : Put area rotation cell (cells p) r (stored new)) where
+  whole : (q : ℕ) → q < 8 → Dec (q ≡ p) → Whole (page_of q (record { skylines = set old.skylines p new }))
+  whole q hq (yes e) = rw (e, get_or-set_same old.skylines p new (record { xs = []; ys = []; n = 0 }) (omega (arith, st.eight))) wh
+  whole q hq (no e) = rw (get_or-set_other old.skylines p q new (record { xs = []; ys = []; n = 0 }) e) (st.whole q hq)
+
   module _ (after : ℕ → List Rect) (here : after p ≡ grown (cells p) r) (others : (q : ℕ) → (q ≡ p → ⊥) → after q ≡ cells q) where
-    holds : (q : ℕ) → q < 8 → Dec (q ≡ p) → Holds area.w (after q) (page_of q (record { skylines = set old.skylines p new }))
+    holds : (q : ℕ) → q < 8 → Dec (q ≡ p) → Holds area.w (after q) (stored (page_of q (record { skylines = set old.skylines p new })))
     holds q hq (yes e) =
         rw (e, here, get_or-set_same old.skylines p new (record { xs = []; ys = []; n = 0 }) (omega (arith, st.eight))) pt.holds
     holds q hq (no e) = rw (others q e, get_or-set_other old.skylines p q new (record { xs = []; ys = []; n = 0 }) e) (st.holds q hq)
@@ -46,6 +50,7 @@ module _ (area : Size) (rotation : Bool) (cell : Size) (p m : ℕ) (cells : ℕ 
     found = pt.found;
     stands = λ after here others. record {
       eight = length-set old.skylines p new ∙ st.eight;
+      whole = λ q hq. whole q hq (ℕ_discrete q p);
       holds = λ q hq. holds after here others q hq (ℕ_discrete q p);
       few = λ q hq. few after here others q hq (ℕ_discrete q p);
     };
@@ -69,10 +74,40 @@ module _ (cells : ℕ → List Rect) (area : Size) (rotation : Bool) (cell : Siz
 
 -- ## empty pages
 
+-- the first n are
+pub record Cleared (W n : ℕ) (k : Pages) : Type 0 where
+  pub eight : length k.skylines ≡ 8
+  pub whole : (p : ℕ) → p < n → Whole (page_of p k)
+  pub holds : (p : ℕ) → p < n → Holds W [] (stored (page_of p k))
+
+pub cleared_none : (w : ℕ) (k : Pages) → length k.skylines ≡ 8 → Cleared w 0 k
+cleared_none w k e = record { eight = e; whole = λ p h. absurd (omega arith); holds = λ p h. absurd (omega arith) }
+
+-- one page more
+module _ (w n : ℕ) (old : Pages) (new : Skyline) (h : n < 8) (wh : Whole new) (hd : Holds w [] (stored new)) (s : Cleared w n old) where
+  clear_whole : (q : ℕ) → q < n + 1 → Dec (q ≡ n) → Whole (page_of q (record { skylines = set old.skylines n new }))
+  clear_whole q b (yes e) = rw (e, get_or-set_same old.skylines n new (record { xs = []; ys = []; n = 0 }) (omega (arith, s.eight))) wh
+  clear_whole q b (no e) = rw (get_or-set_other old.skylines n q new (record { xs = []; ys = []; n = 0 }) e) (s.whole q (omega (arith, e)))
+
+  clear_holds : (q : ℕ) → q < n + 1 → Dec (q ≡ n) → Holds w [] (stored (page_of q (record { skylines = set old.skylines n new })))
+  clear_holds q b (yes e) = rw (e, get_or-set_same old.skylines n new (record { xs = []; ys = []; n = 0 }) (omega (arith, s.eight))) hd
+  clear_holds q b (no e) = rw (get_or-set_other old.skylines n q new (record { xs = []; ys = []; n = 0 }) e) (s.holds q (omega (arith, e)))
+
+  pub cleared_more : Cleared w (n + 1) (record { skylines = set old.skylines n new })
+  cleared_more = record {
+    eight = length-set old.skylines n new ∙ s.eight;
+    whole = λ q b. clear_whole q b (ℕ_discrete q n);
+    holds = λ q b. clear_holds q b (ℕ_discrete q n);
+  }
+
+pub cleared_all : (w n : ℕ) (k : Pages) → 8 ≤ n → Cleared w n k → Fresh w k
+cleared_all w n k b s = record { eight = s.eight; whole = λ p h. s.whole p (omega arith); holds = λ p h. s.holds p (omega arith) }
+
 -- they stand with no cells
 pub fresh_stands : (w : ℕ) (cells : ℕ → List Rect) (k : Pages) → ((p : ℕ) → cells p ≡ []) → Fresh w k → Stands w cells 0 k
 fresh_stands w cells k e fr = record {
   eight = fr.eight;
+  whole = fr.whole;
   holds = λ p h. rw (e p) (fr.holds p h);
   few = λ p h. let z = ap length (e p) in omega arith;
 }

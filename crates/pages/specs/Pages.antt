@@ -7,7 +7,7 @@ use Rattle.geometry.specs.declared.rect.Rect.{Rect}
 use Rattle.geometry.specs.declared.rect.Size.{Size}
 use Rattle.geometry.specs.declared.spot.Spot.{Spot}
 use Rattle.skyline.specs.declared.skyline.Skyline.{Skyline}
-use Rattle.skyline.specs.Skyline.{Holds}
+use Rattle.skyline.specs.Skyline.{stored, Whole, Holds}
 use Rattle.pages.specs.declared.Pages.{Pages}
 
 -- the first of the first n pages that has a spot for a cell, else n
@@ -21,7 +21,8 @@ page_of p k = get_or k.skylines p (record { xs = []; ys = []; n = 0 })
 -- each page's skyline is that of its cells, of which no page has more than m
 pub record Stands (W : ℕ) (cells : ℕ → List Rect) (m : ℕ) (k : Pages) : Type 0 where
   pub eight : length k.skylines ≡ 8
-  pub holds : (p : ℕ) → p < 8 → Holds W (cells p) (page_of p k)
+  pub whole : (p : ℕ) → p < 8 → Whole (page_of p k)
+  pub holds : (p : ℕ) → p < 8 → Holds W (cells p) (stored (page_of p k))
   pub few : (p : ℕ) → p < 8 → length (cells p) ≤ m
 
 -- some cells do
@@ -36,4 +37,5 @@ pub record PutOn (area : Size) (rotation : Bool) (cell : Size) (p m : ℕ) (cell
 -- all eight are empty
 pub record Fresh (W : ℕ) (k : Pages) : Type 0 where
   pub eight : length k.skylines ≡ 8
-  pub holds : (p : ℕ) → p < 8 → Holds W [] (page_of p k)
+  pub whole : (p : ℕ) → p < 8 → Whole (page_of p k)
+  pub holds : (p : ℕ) → p < 8 → Holds W [] (stored (page_of p k))

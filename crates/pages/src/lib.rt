@@ -13,7 +13,7 @@ use skyline::skyline::Skyline;
 
 #[derive(Clone, Copy)]
 pub struct Pages {
-    skylines: [Skyline; 8],
+    pub skylines: [Skyline; 8],
 }
 
 impl Pages {
@@ -24,6 +24,16 @@ impl Pages {
     {
         Pages {
             skylines: [Skyline::new(w); 8],
+        }
+    }
+
+    // The same, written over what they were: a replay begins with them in the pages that it is lent.
+    pub fn fresh(&mut self, w: u32)
+        requires { 0 < w }
+        ensures { Fresh w self.new }
+    {
+        for p in 0..8 {
+            self.skylines[p].clear(w);
         }
     }
 

@@ -6,9 +6,10 @@ use mathlib.Core.Bool.{Bool, true, false}
 use mathlib.Core.List.{List, [], ◌∷◌}
 use mathlib.Core.Option.{Option, none, some}
 use mathlib.Core.Logic.{◌⊎◌, inl, inr}
+use borrow.Author.Count.{below_more}
 use lib.ListN.{length, get_or}
 use Rattle.std.specs.Prelude.{Option as Found, Some, None}
-use Rattle.std.specs.Option.{MatchOption}
+use Rattle.std.specs.Option.{MatchOption, unwrap_or}
 use Rattle.std.specs.List.{AllWithin, HoldsAt}
 use Rattle.geometry.specs.Words.{any, earliest, or_else}
 use Rattle.geometry.proofs.Words.{not_both, earliest-at, earliest-none}
@@ -26,6 +27,9 @@ use Rattle.records.proofs.Rows.{at_in}
 abbrev pub Misses : Key → List Record → ℕ → Type 0
 Misses k rs n = (i : ℕ) → i < n → has_key k (get_or rs i blank_record) ≡ false
 
+pub misses_more : (k : Key) (rs : List Record) (i : ℕ) → Misses k rs i → has_key k (get_or rs i blank_record) ≡ false → Misses k rs (i + 1)
+misses_more k rs i m e = below_more (λ (j : ℕ). has_key k (get_or rs j blank_record) ≡ false) i m e
+
 module _ (k : Key) (rs : List Record) where
   pub place_at : (i : ℕ) → i < length rs → Misses k rs i → has_key k (get_or rs i blank_record) ≡ true → key_place k rs ≡ i
   unfolding key_place
@@ -42,6 +46,14 @@ module _ (k : Key) (rs : List Record) where
   place_none m =
       ap (λ (o : Option ℕ). or_else o (length rs))
       (earliest-none (λ (j : ℕ). has_key k (get_or rs j blank_record)) 0 (length rs) (λ j a b. m j (omega arith)))
+
+-- what a search for the key finds, or the length
+pub place_is : (k : Key) (rs : List Record) (o : Found ℕ)
+    → MatchOption o (AllWithin (λ r. has_key k r ≡ false) rs 0 (length rs))
+    (λ i. (i < length rs) × HoldsAt (λ r. has_key k r ≡ true) rs i × AllWithin (λ r. has_key k r ≡ false) rs 0 i)
+    → unwrap_or o (length rs) ≡ key_place k rs
+place_is k rs None h = sym (place_none k rs (λ i b. h i blank_record (omega arith) b))
+place_is k rs (Some i) h = sym (place_at k rs i h.0 (λ j b. h.2 j blank_record (omega arith) b) (h.1 blank_record))
 
 -- the first that has the key
 record Hit (k : Key) (rs : List Record) : Type 0 where

@@ -6,9 +6,11 @@ use mathlib.Core.Path.{◌≡◌, refl, sym, ap, ◌∙◌, subst}
 use mathlib.Core.Bool.{Bool}
 use mathlib.Core.List.{List, [], ◌∷◌, ◌++◌}
 use lib.ListN.{length, get_or, take, drop}
-use lib.Seq.{take-suc, drop-cons, length-take-le, get_or-take}
+use lib.Seq.{take-suc, drop-cons, length-take-le, take_all, get_or-take}
+use Rattle.geometry.specs.Words.{all}
 use Rattle.records.specs.Settings.{blank_record}
-use Rattle.records.specs.Layouts.{standing}
+use Rattle.records.specs.Records.{is_blank}
+use Rattle.records.specs.Layouts.{standing, unused}
 use Rattle.records.specs.declared.frame.Record.{Record}
 use Rattle.records.specs.declared.layout.Layout.{Layout}
 use Rattle.records.proofs.Checks.{Good, Formed}
@@ -34,6 +36,13 @@ module _ (l : Layout) (long : length l.records ≡ 256) (few : l.count ≤ 256) 
   pub standing-at : (d : Record) (i : ℕ) → i < l.count → get_or (standing l) i d ≡ get_or l.records i d
   unfolding standing
   standing-at d i h = get_or-take l.count l.records i d h
+
+  pub standing-whole : (i : ℕ) → l.count ≤ i → take i (standing l) ≡ standing l
+  standing-whole i h = let n = standing-long in take_all i (standing l) (omega arith)
+
+pub unused-from : (l : Layout) → all is_blank (drop l.count l.records) ≡ all is_blank (unused l)
+unfolding unused
+unused-from l = refl
 
 pub standing-good : (l : Layout) → length l.records ≡ 256 → (f : Formed l) → (d : Record) (i : ℕ) → i < l.count → Good l.config (get_or l.records i d)
 standing-good l long f d i h =

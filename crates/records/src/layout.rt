@@ -4,7 +4,7 @@ ghost use Rattle.std.proofs.Math.Option.{none, some};
 ghost use Rattle.geometry.specs.Words.{all};
 ghost use Rattle.records.specs.Settings.{in_bounds, empty_layout};
 ghost use Rattle.records.specs.Records.{is_blank, record_well_formed};
-ghost use Rattle.records.specs.Layouts.{standing, unused, well_formed, record_of, on_page, page_count, ends_of, size_of_page};
+ghost use Rattle.records.specs.Layouts.{standing, unused, well_formed, record_of, key_place, on_page, page_count, ends_of, size_of_page};
 ghost use Rattle.records.specs.Operations.{opened, opened_numbers, page_sized, sized_numbers};
 
 use crate::frame::{Key, Page, Record};
@@ -66,6 +66,17 @@ impl<'a> WellFormed<'a> {
         ensures { MatchOption result (record_of self.entry.layout.now key ≡ none) (λ r. record_of self.entry.layout.now key ≡ some r.now) }
     {
         self.standing().iter().find(|r| r.key == key)
+    }
+
+    // The place of that record among those that stand, or how many stand.
+    pub fn find_key(self, key: Key) -> usize
+        ensures { result ≡ key_place key (standing self.entry.layout.now) }
+    {
+        let standing = self.standing();
+        standing
+            .iter()
+            .position(|r| r.key == key)
+            .unwrap_or(standing.len())
     }
 
     // One more than the greatest page number, or 0.

@@ -12,12 +12,6 @@ use std::{fs, io};
 #[derive(Drop)]
 struct Broken;
 
-impl From<io::Error> for Broken {
-    fn from(_: io::Error) -> Broken {
-        Broken
-    }
-}
-
 // The parts of a case, and the answers that it is given now.
 #[derive(Drop)]
 struct Case {
@@ -28,6 +22,22 @@ struct Case {
     answers: [u8; 65536],
 }
 
+// Reads until the buffer is full, the file ends or a read fails, also where a signal interrupted it, and answers how many bytes are in the front of the
+// buffer.
+fn read_full<F: Read>(file: &mut F, buf: &mut [u8]) -> usize
+    ensures { result ≤ length buf.new }
+{
+    let mut done = 0;
+    while done < buf.len() {
+        let n = file.read(&mut buf[done..]).unwrap_or(0);
+        if n == 0 {
+            break;
+        }
+        done += n;
+    }
+    done
+}
+
 // A part of n bytes.
 fn read_part<F: Read>(file: &mut F, buf: &mut [u8], n: usize) -> Result<(), Broken>
     ensures { OnOk result (n ≤ length buf.new) }
@@ -35,7 +45,9 @@ fn read_part<F: Read>(file: &mut F, buf: &mut [u8], n: usize) -> Result<(), Brok
     if buf.len() < n {
         return Err(Broken);
     }
-    file.read_exact(&mut buf[..n])?;
+    if read_full(file, &mut buf[..n]) < n {
+        return Err(Broken);
+    }
     Ok(())
 }
 
@@ -43,7 +55,9 @@ fn read_part<F: Read>(file: &mut F, buf: &mut [u8], n: usize) -> Result<(), Brok
 // to the byte.
 fn next_case<F: Read>(file: &mut F, case: &mut Case) -> Result<bool, Broken> {
     let mut header = [0u8; 16];
-    file.read_exact(&mut header)?;
+    if read_full(file, &mut header) < header.len() {
+        return Err(Broken);
+    }
     let a = wire::words::word_at(&header, 0) as usize;
     let b = wire::words::word_at(&header, 4) as usize;
     let c = wire::words::word_at(&header, 8) as usize;
@@ -63,10 +77,10 @@ fn next_case<F: Read>(file: &mut F, case: &mut Case) -> Result<bool, Broken> {
 // How many cases the file says it has; 0 where it does not even say that.
 fn told_cases<F: Read>(file: &mut F) -> u32 {
     let mut count = [0u8; 4];
-    match file.read_exact(&mut count) {
-        Ok(()) => wire::words::word_at(&count, 0),
-        Err(_) => 0,
+    if read_full(file, &mut count) < count.len() {
+        return 0;
     }
+    wire::words::word_at(&count, 0)
 }
 
 // What cannot be written is left unsaid: the replay goes on.

@@ -4,6 +4,7 @@ ghost use Rattle.art.specs.Stores.{lent};
 ghost use Rattle.wire.specs.Bytes.{put};
 ghost use Rattle.commands.specs.Reading.{word};
 ghost use Rattle.script.specs.Stepping.{composed_bytes, compose_outcome, compose_pixels, compose_step, row_step};
+ghost use Rattle.geometry.specs.Words.{reached};
 ghost use Rattle.script.specs.Doing.{Does, composed_size};
 
 use crate::steps;
@@ -51,25 +52,23 @@ pub fn compose_step<'a>(
     words: Words<'_, 8>,
     stores: Stores<'a>,
     answers: &mut [u8],
-    l: Layout,
-    written: usize,
-) -> Result<Step, Ended>
-    requires { written + 12 ≤ length answers.old }
-    ensures { Does (compose_step words.entry.script.now (lent stores.entry) (length answers.old) (take written answers.old) words.entry.at l) written answers.old answers.new result }
+    s: &mut Step,
+) -> Result<(), Ended>
+    requires { s.old.written + 12 ≤ length answers.old }
+    ensures { Does (compose_step words.entry.script.now (lent stores.entry) (length answers.old) (take s.old.written answers.old) words.entry.at s.old.layout) s.old.written answers.old answers.new (reached result s.new) }
 {
     let size = words.word(8) as usize;
+    let written = s.written;
     if answers.len() - written - 12 < 8 + size {
         return Err(Ended::NoRoom);
     }
     let a = written + 8;
-    let o = compose_in(words, stores, answers, l, a, a + size);
+    let o = compose_in(words, stores, answers, s.layout, a, a + size);
     let more = composed_size(o, size);
     steps::write_number(answers, written, answers::number(o), (more / 4) as u32);
-    Ok(Step {
-        layout: l,
-        next: words.at + 36,
-        written: a + more,
-    })
+    s.next = words.at + 36;
+    s.written = a + more;
+    Ok(())
 }
 
 // Row of an image: it has at most 2048 pixels.
@@ -77,25 +76,23 @@ pub fn row_step<'a>(
     words: Words<'_, 2>,
     stores: Stores<'a>,
     answers: &mut [u8],
-    l: Layout,
-    written: usize,
-) -> Result<Step, Ended>
-    requires { written + 12 ≤ length answers.old }
-    ensures { Does (row_step words.entry.script.now (lent stores.entry) (length answers.old) (take written answers.old) words.entry.at l) written answers.old answers.new result }
+    s: &mut Step,
+) -> Result<(), Ended>
+    requires { s.old.written + 12 ≤ length answers.old }
+    ensures { Does (row_step words.entry.script.now (lent stores.entry) (length answers.old) (take s.old.written answers.old) words.entry.at s.old.layout) s.old.written answers.old answers.new (reached result s.new) }
 {
     let key = Key(words.word(1));
     let row = words.word(2);
-    let n = answers::number(image_row::row_refusal(l, stores, key, row));
-    let part = image_row::row_of_image(l, stores, key, row);
+    let n = answers::number(image_row::row_refusal(s.layout, stores, key, row));
+    let part = image_row::row_of_image(s.layout, stores, key, row);
     let size = part.len();
+    let written = s.written;
     if answers.len() - written - 12 < 8 + size {
         return Err(Ended::NoRoom);
     }
     steps::write_number(answers, written, n, (size / 4) as u32);
     words::put_bytes(answers, written + 8, part);
-    Ok(Step {
-        layout: l,
-        next: words.at + 12,
-        written: written + 8 + size,
-    })
+    s.next = words.at + 12;
+    s.written = written + 8 + size;
+    Ok(())
 }

@@ -2,6 +2,7 @@
 ghost use Rattle.std.specs.Prelude.{◌≡◌, ◌+◌, ◌≤◌, length, take};
 ghost use Rattle.art.specs.Stores.{lent};
 ghost use Rattle.script.specs.Stepping.{check_source, check_past, check_numbers, check_step};
+ghost use Rattle.geometry.specs.Words.{reached};
 ghost use Rattle.script.specs.Doing.{Does, Checks};
 
 use crate::steps;
@@ -54,13 +55,12 @@ pub fn check_step<'a>(
     words: Words<'a, 10>,
     stores: Stores<'a>,
     answers: &mut [u8],
-    l: Layout,
-    written: usize,
-) -> Result<Step, Ended>
-    requires { written + 12 ≤ length answers.old }
-    ensures { Does (check_step words.entry.script.now (lent stores.entry) (length answers.old) (take written answers.old) words.entry.at l) written answers.old answers.new result }
+    s: &mut Step,
+) -> Result<(), Ended>
+    requires { s.old.written + 12 ≤ length answers.old }
+    ensures { Does (check_step words.entry.script.now (lent stores.entry) (length answers.old) (take s.old.written answers.old) words.entry.at s.old.layout) s.old.written answers.old answers.new (reached result s.new) }
 {
-    let source = check_source(words, stores, &answers[..written]);
-    let a = check_part(words, stores, source, l)?;
-    steps::say(answers, written, a, l, words.at + 44)
+    let source = check_source(words, stores, &answers[..s.written]);
+    let a = check_part(words, stores, source, s.layout)?;
+    steps::say(answers, s, a, words.at + 44)
 }

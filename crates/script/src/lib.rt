@@ -12,6 +12,7 @@ mod bytes;
 mod checking;
 mod running;
 mod steps;
+mod telling;
 
 // How many bytes of the answers were written.
 pub fn run<'a>(script: &'a [u8], stores: Stores<'a>, answers: &mut [u8]) -> usize

@@ -6,52 +6,44 @@ ghost use Rattle.wire.specs.Bytes.{put};
 ghost use Rattle.commands.specs.Taking.{command_number, words_of, There};
 ghost use Rattle.script.specs.Stepping.{end_bytes, command_step, stepped};
 ghost use Rattle.script.specs.Running.{ran};
+ghost use Rattle.geometry.specs.Words.{reached};
 ghost use Rattle.script.specs.Doing.{Does};
 
 use crate::steps::{Ended, Step};
-use crate::{bytes, checking, steps};
+use crate::{bytes, checking, steps, telling};
 use art::memory_rgba8_texture::Stores;
 use commands::command::{Command, Words};
 use records::layout::Layout;
 use records::{layout as layouts, texture_packer_config};
 use wire::words;
 
-// The command at byte `at`, whose words are there. How many it takes is known in each arm alone, so a clause asks, and each arm makes its `Words`.
+// The command where the last one left off, whose words are there. How many it takes is known in each arm alone, so a clause asks, and each arm makes its `Words`.
 fn run_command<'a>(
     script: &'a [u8],
     stores: Stores<'a>,
     answers: &mut [u8],
     command: Command,
-    at: usize,
-    l: Layout,
-    written: usize,
-) -> Result<Step, Ended>
-    requires command_bound { There script.now at (words_of (command_number command)) }
-    requires written_in_bounds { written + 12 ≤ length answers.old }
-    ensures { Does (command_step script.now (lent stores.entry) (length answers.old) (take written answers.old) at l (command_number command)) written answers.old answers.new result }
+    s: &mut Step,
+) -> Result<(), Ended>
+    requires command_bound { There script.now s.old.next (words_of (command_number command)) }
+    requires written_in_bounds { s.old.written + 12 ≤ length answers.old }
+    ensures { Does (command_step script.now (lent stores.entry) (length answers.old) (take s.old.written answers.old) s.old.next s.old.layout (command_number command)) s.old.written answers.old answers.new (reached result s.new) }
 {
-    let o = match command {
-        Command::Open => commands::open(Words { script, at }),
-        Command::Ask => commands::ask(Words { script, at }, l),
-        Command::Offer => commands::offer(Words { script, at }, stores, l),
-        Command::Withdraw => commands::withdraw(l),
-        Command::PageSize => commands::page_size(Words { script, at }, l),
-        Command::Pixel => commands::pixel(Words { script, at }, stores, l),
-        Command::Coordinates => commands::coordinates(Words { script, at }, l),
-        Command::ComposeRows => {
-            return bytes::compose_step(Words { script, at }, stores, answers, l, written);
-        }
-        Command::CheckRows => {
-            return checking::check_step(Words { script, at }, stores, answers, l, written);
-        }
-        Command::RowOfImage => {
-            return bytes::row_step(Words { script, at }, stores, answers, l, written);
-        }
-        Command::Set => return steps::set_step(Words { script, at }, l, written),
-        Command::Data => return steps::data_step(Words { script, at }, l, written),
-    };
-    let next = at + 4 + 4 * command.words();
-    steps::say(answers, written, o.answer, o.layout, next)
+    let at = s.next;
+    match command {
+        Command::Open => telling::open(Words { script, at }, answers, s),
+        Command::Ask => telling::ask(Words { script, at }, answers, s),
+        Command::Offer => telling::offer(Words { script, at }, stores, answers, s),
+        Command::Withdraw => telling::withdraw(Words { script, at }, answers, s),
+        Command::PageSize => telling::page_size(Words { script, at }, answers, s),
+        Command::Pixel => telling::pixel(Words { script, at }, stores, answers, s),
+        Command::Coordinates => telling::coordinates(Words { script, at }, answers, s),
+        Command::ComposeRows => bytes::compose_step(Words { script, at }, stores, answers, s),
+        Command::CheckRows => checking::check_step(Words { script, at }, stores, answers, s),
+        Command::RowOfImage => bytes::row_step(Words { script, at }, stores, answers, s),
+        Command::Set => steps::set_step(Words { script, at }, s),
+        Command::Data => steps::data_step(Words { script, at }, s),
+    }
 }
 
 // The next command, from where the last one left off.
@@ -59,10 +51,10 @@ fn step<'a>(
     script: &'a [u8],
     stores: Stores<'a>,
     answers: &mut [u8],
-    s: Step,
-) -> Result<Step, Ended>
-    requires { (s.next < length script.now) × (s.written + 12 ≤ length answers.old) }
-    ensures { Does (stepped script.now (lent stores.entry) (length answers.old) (take s.written answers.old) s.next s.layout) s.written answers.old answers.new result }
+    s: &mut Step,
+) -> Result<(), Ended>
+    requires { (s.old.next < length script.now) × (s.old.written + 12 ≤ length answers.old) }
+    ensures { Does (stepped script.now (lent stores.entry) (length answers.old) (take s.old.written answers.old) s.old.next s.old.layout) s.old.written answers.old answers.new (reached result s.new) }
 {
     let left = script.len() - s.next;
     if left < 4 {
@@ -72,9 +64,7 @@ fn step<'a>(
     if left - 4 < 4 * command.words() {
         return Err(Ended::CutShort);
     }
-    run_command(
-        script, stores, answers, command, s.next, s.layout, s.written,
-    )
+    run_command(script, stores, answers, command, s)
 }
 
 // The end: a code and where it ended, modulo 2^32.
@@ -106,9 +96,11 @@ pub fn run_commands<'a>(script: &'a [u8], stores: Stores<'a>, answers: &mut [u8]
         written: 0,
     };
     while s.next < script.len() {
-        match step(script, stores, answers, s) {
-            Ok(after) => s = after,
-            Err(ended) => return finish(answers, s.written, u32::from(ended), s.next),
+        let at = s.next;
+        let written = s.written;
+        match step(script, stores, answers, &mut s) {
+            Ok(()) => {}
+            Err(ended) => return finish(answers, written, u32::from(ended), at),
         }
     }
     finish(answers, s.written, 0, s.next)

@@ -2,6 +2,7 @@
 ghost use Rattle.std.specs.Prelude.{◌≡◌, [], ◌∷◌, ◌+◌, ◌*◌, ◌≤◌, ◌<◌, length, take};
 ghost use Rattle.wire.specs.Bytes.{words_bytes, put};
 ghost use Rattle.script.specs.Stepping.{answer_bytes, saying, set_step, data_step};
+ghost use Rattle.geometry.specs.Words.{reached};
 ghost use Rattle.script.specs.Doing.{code_of, Leaves, Does};
 ghost use Rattle.script.specs.declared.steps.Ended.TheVariants.{Unknown};
 
@@ -53,26 +54,18 @@ fn write_answer(answers: &mut [u8], written: usize, a: Answer) -> usize
     written + 4 + 4 * a.count
 }
 
-pub fn say(
-    answers: &mut [u8],
-    written: usize,
-    a: Answer,
-    l: Layout,
-    next: usize,
-) -> Result<Step, Ended>
-    requires { (a.count ≤ 8) × (written + 12 ≤ length answers.old) }
-    ensures { Does (saying (length answers.old) (take written answers.old) l next (answer_bytes (take a.count a.words) [])) written answers.old answers.new result }
+// The layout stays.
+pub fn say(answers: &mut [u8], s: &mut Step, a: Answer, next: usize) -> Result<(), Ended>
+    requires { (a.count ≤ 8) × (s.old.written + 12 ≤ length answers.old) }
+    ensures { Does (saying (length answers.old) (take s.old.written answers.old) s.old.layout next (answer_bytes (take a.count a.words) [])) s.old.written answers.old answers.new (reached result s.new) }
 {
     let count = a.count;
-    if answers.len() - written - 12 < 4 + 4 * count {
+    if answers.len() - s.written - 12 < 4 + 4 * count {
         return Err(Ended::NoRoom);
     }
-    let to = write_answer(answers, written, a);
-    Ok(Step {
-        layout: l,
-        next,
-        written: to,
-    })
+    s.written = write_answer(answers, s.written, a);
+    s.next = next;
+    Ok(())
 }
 
 // An answer of one number, with `more` words to follow it, which are counted with it.
@@ -84,8 +77,8 @@ pub fn write_number(answers: &mut [u8], written: usize, n: u32, more: u32)
     words::put_word(answers, written + 4, n);
 }
 
-pub fn set_step(words: Words<'_, 3>, l: Layout, written: usize) -> Result<Step, Ended>
-    ensures { Leaves written (set_step words.entry.script.now words.entry.at l) result }
+pub fn set_step(words: Words<'_, 3>, s: &mut Step) -> Result<(), Ended>
+    ensures { Leaves s.old.written (set_step words.entry.script.now words.entry.at s.old.layout) (reached result s.new) }
 {
     let field = words.word(1);
     if !fields::is_field(field) {
@@ -93,25 +86,19 @@ pub fn set_step(words: Words<'_, 3>, l: Layout, written: usize) -> Result<Step, 
     }
     let place = words.word(2);
     let n = words.word(3);
-    let after = fields::layout_with(l, field, place, n);
-    Ok(Step {
-        layout: after,
-        next: words.at + 16,
-        written,
-    })
+    s.layout = fields::layout_with(s.layout, field, place, n);
+    s.next = words.at + 16;
+    Ok(())
 }
 
-pub fn data_step(words: Words<'_, 1>, l: Layout, written: usize) -> Result<Step, Ended>
-    ensures { Leaves written (data_step words.entry.script.now words.entry.at l) result }
+pub fn data_step(words: Words<'_, 1>, s: &mut Step) -> Result<(), Ended>
+    ensures { Leaves s.old.written (data_step words.entry.script.now words.entry.at s.old.layout) (reached result s.new) }
 {
     let n = words.word(1) as usize;
     let left = words.script.len() - words.at - 8;
     if left < 4 * n {
         return Err(Ended::CutShort);
     }
-    Ok(Step {
-        layout: l,
-        next: words.at + 8 + 4 * n,
-        written,
-    })
+    s.next = words.at + 8 + 4 * n;
+    Ok(())
 }

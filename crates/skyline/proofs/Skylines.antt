@@ -13,14 +13,13 @@ use lib.ListN.{length, get_or, set, length-set}
 use lib.Seq.{get_or-set_same, get_or-set_other}
 use Rattle.geometry.specs.declared.rect.Size.{Size}
 use Rattle.geometry.specs.Placing.{is_start, segment, top, fitting_at, candidates_from, rank, best_of}
-use Rattle.skyline.specs.declared.skyline.Skyline.{Skyline}
-use Rattle.skyline.specs.Skyline.{Shape, Level, Starts, Holds}
+use Rattle.skyline.specs.Skyline.{Outline, outline, Shape, Level, Starts, Holds}
 use Rattle.geometry.proofs.Heights.{no_height, top-level, top_bound, start-zero, start_yes, start_no, segment-is}
 use Rattle.skyline.proofs.Search.{search_segment}
 
 -- ## the skyline
 
-module _ (W : ℕ) (sky : Skyline) (sh : Shape W sky) where
+module _ (W : ℕ) (sky : Outline) (sh : Shape W sky) where
   -- a start left of the edge is one of the first n
   pub before_edge : (j : ℕ) → j ≤ sky.n → get_or sky.xs j 0 < W → j < sky.n
   before_edge j l lt = go (eq-or-lt_of_le l)
@@ -89,7 +88,7 @@ module _ (W : ℕ) (sky : Skyline) (sh : Shape W sky) where
 
 -- ## a start is the first column of a segment
 
-module _ (W : ℕ) (sky : Skyline) (sh : Shape W sky) where
+module _ (W : ℕ) (sky : Outline) (sh : Shape W sky) where
   -- the segment that a column lies in
   locate : (m i c : ℕ) → i + m ≡ sky.n → get_or sky.xs i 0 ≤ c → c < W → (j : ℕ) × (j < sky.n) × (get_or sky.xs j 0 ≤ c) × (c < get_or sky.xs (j + 1) 0)
   locate zero i c q l r = let e : i ≡ sky.n = omega arith in let z = ap (λ (j : ℕ). get_or sky.xs j 0) e in let v = sh.last in absurd (omega arith)
@@ -121,28 +120,29 @@ top_passed f s x e le = let m : min x e ≡ e = omega arith in ap (λ (k : ℕ).
 
 -- ## an empty page: one segment, of height 0
 
-module _ (W : ℕ) (xs ys : List ℕ) (lx : length xs ≡ 258) (ly : length ys ≡ 258) (x0 : get_or xs 0 0 ≡ 0) (y0 : get_or ys 0 0 ≡ 0) where
-  x-first : get_or (set xs 1 W) 0 0 ≡ 0
-  x-first = get_or-set_other xs 1 0 W 0 (λ q. omega arith) ∙ x0
+pub empty_holds : (W : ℕ) (xs ys : List ℕ) → 0 < W → 1 < length xs → 0 < length ys → Holds W [] (outline (set (set xs 0 0) 1 W) (set ys 0 0) 1)
+empty_holds W xs ys pos lx ly = record {
+  shape = record {
+    room-x = omega (arith, length-set xs 0 0, length-set (set xs 0 0) 1 W);
+    room-y = omega (arith, length-set ys 0 0);
+    first = x0;
+    last = x1;
+    rises = λ i l.
+        let e : i ≡ 0 = omega arith in
+        let a = ap (λ (j : ℕ). get_or (set (set xs 0 0) 1 W) j 0) e in
+        let b = ap (λ (j : ℕ). get_or (set (set xs 0 0) 1 W) (j + 1) 0) e in
+        omega (arith, x0, x1);
+    steps = λ i l. absurd (omega arith);
+  };
+  level = λ i c l a b. let e : 0 ≡ i = omega arith in no_height c ∙ sym y0 ∙ ap (λ (j : ℕ). get_or (set ys 0 0) j 0) e;
+  few = omega arith;
+}
+  where
+    x0 : get_or (set (set xs 0 0) 1 W) 0 0 ≡ 0
+    x0 = get_or-set_other (set xs 0 0) 1 0 W 0 (λ q. omega arith) ∙ get_or-set_same xs 0 0 0 (omega arith)
 
-  x-last : get_or (set xs 1 W) 1 0 ≡ W
-  x-last = get_or-set_same xs 1 W 0 (omega arith)
+    x1 : get_or (set (set xs 0 0) 1 W) 1 0 ≡ W
+    x1 = get_or-set_same (set xs 0 0) 1 W 0 (omega (arith, length-set xs 0 0))
 
-  pub empty_holds : 0 < W → Holds W [] (record { xs = set xs 1 W; ys = ys; n = 1 })
-  empty_holds pos = record {
-    shape = record {
-      wide-x = length-set xs 1 W ∙ lx;
-      wide-y = ly;
-      room = omega arith;
-      first = x-first;
-      last = x-last;
-      rises = λ i l.
-          let e : i ≡ 0 = omega arith in
-          let a = ap (λ (j : ℕ). get_or (set xs 1 W) j 0) e in
-          let b = ap (λ (j : ℕ). get_or (set xs 1 W) (j + 1) 0) e in
-          omega (arith, x-first, x-last);
-      steps = λ i l. absurd (omega arith);
-    };
-    level = λ i c l a b. let e : 0 ≡ i = omega arith in no_height c ∙ sym y0 ∙ ap (λ (j : ℕ). get_or ys j 0) e;
-    few = omega arith;
-  }
+    y0 : get_or (set ys 0 0) 0 0 ≡ 0
+    y0 = get_or-set_same ys 0 0 0 ly

@@ -1,24 +1,26 @@
 // One page's skyline, after skyline_packer.rs of texture_packer: the search for the best spot for a cell, and the skyline with
-// the cell there. The area and whether cells may be turned stay two parameters, as the rule's definitions take them.
-ghost use Rattle.std.specs.Prelude.{◌≡◌, List, ℕ, ◌+◌, ◌-◌, ◌≤◌, ◌<◌, get_or, leb, MatchOption};
+// the cell there, in two lent slices and a count. The area and whether cells may be turned stay two parameters, as the rule's
+// definitions take them.
+ghost use Rattle.std.specs.Prelude.{◌≡◌, List, [], ℕ, ◌+◌, ◌-◌, ◌≤◌, ◌<◌, length, get_or, leb, MatchOption};
 ghost use Rattle.geometry.specs.Words.{any};
 ghost use Rattle.geometry.specs.Placing.{rank, top, lying, cell_at, spot_at, inside, orientations, fitting_at, best_of, spot_for, is_found};
 ghost use Rattle.geometry.specs.Fits.{HasPixels};
-ghost use Rattle.skyline.specs.Skyline.{fitted, Shape, Level, TooSmall, Limits, Holds, Room, Put};
+ghost use Rattle.skyline.specs.Skyline.{outline, lent, stored, Whole, fitted, Shape, Level, TooSmall, Limits, Holds, Room, Put};
 ghost use Rattle.geometry.specs.declared.rect.Rect.{Rect};
 
-use crate::skyline::Skyline;
+use crate::skyline;
+use crate::skyline::{Segments, Skyline};
 use geometry::rect::{Rect, Size};
 use geometry::spot;
 use geometry::spot::{Spot, Turn};
 
-impl Skyline {
+impl<'a> Segments<'a> {
     // Whether no column from segment i's start up to column e is higher than `most`.
-    fn stays_under(&self, i: usize, e: u32, most: u32) -> bool
-        requires shape { (w : ℕ) × Shape w self.now × (e ≤ w) }
-        requires i_lt_n { (i < self.now.n) × (get_or self.now.xs i 0 ≤ e) }
-        ensures { (f : ℕ → ℕ) → Level f self.now →
-            result ≡ leb (top f (get_or self.now.xs i 0) (e - get_or self.now.xs i 0)) most }
+    fn stays_under(self, i: usize, e: u32, most: u32) -> bool
+        requires shape { (w : ℕ) × Shape w (lent self) × (e ≤ w) }
+        requires i_lt_n { (i < self.n) × (get_or self.xs.now i 0 ≤ e) }
+        ensures { (f : ℕ → ℕ) → Level f (lent self.entry) →
+            result ≡ leb (top f (get_or self.entry.xs.now i 0) (e - get_or self.entry.xs.now i 0)) most }
     {
         for j in i..self.n {
             if e <= self.xs[j] {
@@ -33,10 +35,10 @@ impl Skyline {
 
     // Where a cell that lies as `size` says would end at the start of segment i, and the greatest height that it can stand on there:
     // nothing if the area is too small for it.
-    fn limits_at(&self, i: usize, area: Size, size: Size) -> Option<(u32, u32)>
-        requires shape { Shape area.w self.now }
-        requires i_lt_n { i < self.now.n }
-        ensures { MatchOption result (TooSmall area size (get_or self.now.xs i 0)) (λ l. Limits area size (get_or self.now.xs i 0) l.0 l.1) }
+    fn limits_at(self, i: usize, area: Size, size: Size) -> Option<(u32, u32)>
+        requires shape { Shape area.w (lent self) }
+        requires i_lt_n { i < self.n }
+        ensures { MatchOption result (TooSmall area size (get_or self.entry.xs.now i 0)) (λ l. Limits area size (get_or self.entry.xs.now i 0) l.0 l.1) }
     {
         let s = self.xs[i];
         if area.w - s < size.w {
@@ -46,11 +48,11 @@ impl Skyline {
     }
 
     // Whether a cell that lies as `size` says fits at the start of segment i.
-    fn fits_at(&self, i: usize, area: Size, size: Size) -> bool
-        requires shape { Shape area.w self.now }
-        requires i_lt_n { i < self.now.n }
-        ensures { (f : ℕ → ℕ) → Level f self.now →
-            result ≡ inside area (cell_at f size (get_or self.now.xs i 0)) }
+    fn fits_at(self, i: usize, area: Size, size: Size) -> bool
+        requires shape { Shape area.w (lent self) }
+        requires i_lt_n { i < self.n }
+        ensures { (f : ℕ → ℕ) → Level f (lent self.entry) →
+            result ≡ inside area (cell_at f size (get_or self.entry.xs.now i 0)) }
     {
         match self.limits_at(i, area, size) {
             None => false,
@@ -59,11 +61,11 @@ impl Skyline {
     }
 
     // Whether a cell fits at the start of segment i in an allowed orientation. Most starts end here.
-    fn fits_some(&self, i: usize, area: Size, rotation: bool, cell: Size) -> bool
-        requires shape { Shape area.w self.now }
-        requires i_lt_n { i < self.now.n }
-        ensures { (f : ℕ → ℕ) → Level f self.now →
-            result ≡ any (λ t. inside area (cell_at f (lying t cell) (get_or self.now.xs i 0))) (orientations rotation) }
+    fn fits_some(self, i: usize, area: Size, rotation: bool, cell: Size) -> bool
+        requires shape { Shape area.w (lent self) }
+        requires i_lt_n { i < self.n }
+        ensures { (f : ℕ → ℕ) → Level f (lent self.entry) →
+            result ≡ any (λ t. inside area (cell_at f (lying t cell) (get_or self.entry.xs.now i 0))) (orientations rotation) }
     {
         if self.fits_at(i, area, cell) {
             return true;
@@ -72,11 +74,11 @@ impl Skyline {
     }
 
     // The greatest height of the columns from segment i's start up to column e.
-    fn top_of(&self, i: usize, e: u32) -> u32
-        requires shape { (w : ℕ) × Shape w self.now × (e ≤ w) }
-        requires i_lt_n { (i < self.now.n) × (get_or self.now.xs i 0 ≤ e) }
-        ensures { (f : ℕ → ℕ) → Level f self.now →
-            result ≡ top f (get_or self.now.xs i 0) (e - get_or self.now.xs i 0) }
+    fn top_of(self, i: usize, e: u32) -> u32
+        requires shape { (w : ℕ) × Shape w (lent self) × (e ≤ w) }
+        requires i_lt_n { (i < self.n) × (get_or self.xs.now i 0 ≤ e) }
+        ensures { (f : ℕ → ℕ) → Level f (lent self.entry) →
+            result ≡ top f (get_or self.entry.xs.now i 0) (e - get_or self.entry.xs.now i 0) }
     {
         let mut y = 0;
         for j in i..self.n {
@@ -89,11 +91,11 @@ impl Skyline {
     }
 
     // A cell that lies as `size` says at the start of segment i, if it fits.
-    fn can_put(&self, i: usize, area: Size, turn: Turn, size: Size) -> Option<Spot>
-        requires shape { Shape area.w self.now }
-        requires i_lt_n { (i < self.now.n) × (0 < size.h) }
-        ensures { (f : ℕ → ℕ) → Level f self.now →
-            result ≡ fitted area (spot_at f area.w turn size (get_or self.now.xs i 0)) }
+    fn can_put(self, i: usize, area: Size, turn: Turn, size: Size) -> Option<Spot>
+        requires shape { Shape area.w (lent self) }
+        requires i_lt_n { (i < self.n) × (0 < size.h) }
+        ensures { (f : ℕ → ℕ) → Level f (lent self.entry) →
+            result ≡ fitted area (spot_at f area.w turn size (get_or self.entry.xs.now i 0)) }
     {
         let (end, most) = self.limits_at(i, area, size)?;
         let y = self.top_of(i, end);
@@ -117,17 +119,17 @@ impl Skyline {
 
     // Segment i's start tried upright and, if allowed, turned, after what was found so far.
     fn try_at(
-        &self,
+        self,
         i: usize,
         area: Size,
         rotation: bool,
         cell: Size,
         found: Option<Spot>,
     ) -> Option<Spot>
-        requires shape { Shape area.w self.now }
-        requires i_lt_n { (i < self.now.n) × HasPixels cell }
-        ensures { (f : ℕ → ℕ) → Level f self.now →
-            result ≡ best_of rank found (fitting_at f area rotation cell (get_or self.now.xs i 0)) }
+        requires shape { Shape area.w (lent self) }
+        requires i_lt_n { (i < self.n) × HasPixels cell }
+        ensures { (f : ℕ → ℕ) → Level f (lent self.entry) →
+            result ≡ best_of rank found (fitting_at f area rotation cell (get_or self.entry.xs.now i 0)) }
     {
         let a = spot::choose(found, self.can_put(i, area, Turn::Upright, cell));
         if rotation {
@@ -139,9 +141,9 @@ impl Skyline {
     }
 
     // The best spot for a cell. A start is tried only where the cell ends no lower than what was found before.
-    pub fn find_skyline(&self, area: Size, rotation: bool, cell: Size) -> Option<Spot>
-        requires { Shape area.w self.now × HasPixels cell }
-        ensures { (f : ℕ → ℕ) → Level f self.now → result ≡ spot_for f area rotation cell }
+    pub fn find_skyline(self, area: Size, rotation: bool, cell: Size) -> Option<Spot>
+        requires { Shape area.w (lent self) × HasPixels cell }
+        ensures { (f : ℕ → ℕ) → Level f (lent self.entry) → result ≡ spot_for f area rotation cell }
     {
         let mut found = None;
         let mut low = area.h;
@@ -156,9 +158,9 @@ impl Skyline {
     }
 
     // Whether a cell has a spot: the first start where it fits decides.
-    pub fn can_pack(&self, area: Size, rotation: bool, cell: Size) -> bool
-        requires { Shape area.w self.now × HasPixels cell }
-        ensures { (f : ℕ → ℕ) → Level f self.now → result ≡ is_found (spot_for f area rotation cell) }
+    pub fn can_pack(self, area: Size, rotation: bool, cell: Size) -> bool
+        requires { Shape area.w (lent self) × HasPixels cell }
+        ensures { (f : ℕ → ℕ) → Level f (lent self.entry) → result ≡ is_found (spot_for f area rotation cell) }
     {
         for i in 0..self.n {
             if self.fits_some(i, area, rotation, cell) {
@@ -167,17 +169,77 @@ impl Skyline {
         }
         false
     }
+}
+
+// What was found, and the number of segments that the skyline then has.
+#[derive(Clone, Copy)]
+pub struct Packed {
+    pub found: Option<Spot>,
+    pub n: usize,
+}
+
+// The skyline of an empty page, of one segment.
+pub fn new(xs: &mut [u32], ys: &mut [u32], w: u32)
+    requires { (0 < w) × (1 < length xs.old) × (0 < length ys.old) }
+    ensures { Holds w [] (outline xs.new ys.new 1) }
+{
+    xs[0] = 0;
+    xs[1] = w;
+    ys[0] = 0;
+}
+
+// The best spot for a cell, and the skyline with the cell there.
+pub fn pack(
+    xs: &mut [u32],
+    ys: &mut [u32],
+    n: usize,
+    area: Size,
+    rotation: bool,
+    cell: Size,
+) -> Packed
+    requires holds { (cells : List Rect) × Holds area.w cells (outline xs.old ys.old n) × Room cells (outline xs.old ys.old n) }
+    requires has_pixels { HasPixels cell }
+    ensures { (cells : List Rect) → Holds area.w cells (outline xs.old ys.old n) →
+        Put area rotation cell cells result.found (outline xs.new ys.new result.n) }
+{
+    let found = Segments { xs, ys, n }.find_skyline(area, rotation, cell);
+    match found {
+        None => Packed { found, n },
+        Some(spot) => {
+            let at = spot.at;
+            let n = skyline::split_and_merge(xs, ys, n, at.x, at.x + at.w, at.y + at.h);
+            Packed { found, n }
+        }
+    }
+}
+
+impl Skyline {
+    // The best spot for a cell.
+    pub fn find_skyline(&self, area: Size, rotation: bool, cell: Size) -> Option<Spot>
+        requires { Shape area.w (stored self.now) × HasPixels cell }
+        ensures { (f : ℕ → ℕ) → Level f (stored self.now) → result ≡ spot_for f area rotation cell }
+    {
+        self.segments().find_skyline(area, rotation, cell)
+    }
+
+    // Whether a cell has a spot.
+    pub fn can_pack(&self, area: Size, rotation: bool, cell: Size) -> bool
+        requires { Shape area.w (stored self.now) × HasPixels cell }
+        ensures { (f : ℕ → ℕ) → Level f (stored self.now) → result ≡ is_found (spot_for f area rotation cell) }
+    {
+        self.segments().can_pack(area, rotation, cell)
+    }
 
     // The best spot for a cell, and the skyline with the cell there.
     pub fn pack(&mut self, area: Size, rotation: bool, cell: Size) -> Option<Spot>
-        requires holds { (cells : List Rect) × Holds area.w cells self.old × Room cells }
+        requires holds { (cells : List Rect) × Holds area.w cells (stored self.old) × (length cells + 2 < 258) }
         requires has_pixels { HasPixels cell }
-        ensures { (cells : List Rect) → Holds area.w cells self.old →
-            Put area rotation cell cells result self.new }
+        ensures put { (cells : List Rect) → Holds area.w cells (stored self.old) →
+            Put area rotation cell cells result (stored self.new) }
+        ensures whole { Whole self.new }
     {
-        let spot = self.find_skyline(area, rotation, cell)?;
-        let at = spot.at;
-        self.split_and_merge(at.x, at.x + at.w, at.y + at.h);
-        Some(spot)
+        let packed = pack(&mut self.xs, &mut self.ys, self.n, area, rotation, cell);
+        self.n = packed.n;
+        packed.found
     }
 }

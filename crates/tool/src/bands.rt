@@ -148,6 +148,10 @@ impl Sheet<'_> {
         if w == 0 {
             return Err(Fault::Refused(Refusal::EmptyPage));
         }
+        // A page of no height has no rows to take, whatever the buffer.
+        if h == 0 {
+            return Ok(());
+        }
         let long = 4 * w as usize;
         let most = buf.len() / long;
         if most == 0 {
@@ -165,7 +169,7 @@ impl Sheet<'_> {
     pub fn write_page<F: Write>(&self, file: &mut F, buf: &mut [u8]) -> Result<(), Fault> {
         self.each_band(buf, |rows, band| {
             self.compose(rows, band)?;
-            file.write_all(band).map_err(|_| Fault::Unwritten)
+            system::write_all(file, band).map_err(|_| Fault::Unwritten)
         })
     }
 

@@ -1,11 +1,12 @@
 // The two programs: each job that the arguments name, one after the other.
+ghost use Rattle.std.specs.Prelude.{◌≡◌, ◌+◌, ◌≤◌, length};
+
 use crate::bands::Pages;
 use crate::page_folder::PageFolder;
-use crate::preparing::Names;
+use crate::preparing::{Names, Ready};
+use crate::system::LONGEST;
 use crate::{page_folder, placing, preparing, system, telling};
-use art::memory_rgba8_texture::Stores;
 use records::layout::Layout;
-use std::alloc::AllocError;
 use std::rt::{Env, Files};
 use std::{fs, str};
 
@@ -16,97 +17,121 @@ pub enum Program {
     Verify,
 }
 
+// A job's text has at most 64 KiB.
+const TEXT: usize = 65536;
+
+// A store has at most 1 MiB.
+const STORE: usize = 1048576;
+
 // A page is composed and checked in as many rows as this holds.
 const BAND: usize = 65536;
 
-// Why a job is not packed or verified.
+// A job that is not packed or verified: what is wrong is said already.
 #[derive(Clone, Copy)]
-enum Failed {
-    // What is wrong is said already.
-    Said,
-    NoMemory,
-}
-
-impl From<AllocError> for Failed {
-    fn from(_error: AllocError) -> Failed {
-        Failed::NoMemory
-    }
-}
+struct Said;
 
 // A folder that std cannot name is refused before its pages are: where nothing in it can be looked at or removed, a job without pages would pass.
 fn do_pages(
-    rt: &(impl Files + Print + AllocGlobal),
+    rt: &(impl Files + Print),
     program: Program,
     folder: &[u8],
     pages: Pages<'_>,
-) -> Result<(), Failed> {
+    band: &mut [u8],
+) -> Result<(), Said> {
     let Ok(name) = str::from_utf8(folder) else {
         telling::say_of(rt, folder, "cannot be opened");
-        return Err(Failed::Said);
+        return Err(Said);
     };
-    let mut buf = vec![in rt.alloc(); 0u8; BAND]?;
-    let files = PageFolder { name, pages };
+    let files = PageFolder {
+        name: folder,
+        pages,
+    };
     let good = match program {
         Program::Pack => {
             // A folder that is there already stays.
             let _ = fs::create_dir(rt, name);
-            files.pack(rt, &mut buf)?
+            files.pack(rt, band)
         }
-        Program::Verify => files.verify_all(rt, &mut buf)?,
+        Program::Verify => files.verify_all(rt, band),
     };
-    if good { Ok(()) } else { Err(Failed::Said) }
+    if good { Ok(()) } else { Err(Said) }
 }
 
 // The job as it is laid out. A refused image ends it before any page is written.
 fn do_job(
-    rt: &(impl Files + Print + AllocGlobal),
+    rt: &(impl Files + Print),
     program: Program,
     names: Names<'_>,
-) -> Result<Layout, Failed> {
-    let ready = preparing::prepare(rt, names).ok_or(Failed::Said)?;
-    let stores = Stores {
-        symbols: &ready.symbols,
-        wording: &ready.wording,
-    };
-    let laid = laying::lay_out(stores, ready.job);
+    text: &mut [u8],
+    symbols: &mut [u8],
+    wording: &mut [u8],
+    band: &mut [u8],
+) -> Result<Layout, Said> {
+    let Ready { job, stores } = preparing::prepare(rt, names, text, symbols, wording).ok_or(Said)?;
+    let laid = laying::lay_out(stores, job);
     if let Program::Pack = program {
         placing::say_places(rt, &laid.layout);
     }
     if let Err(stop) = laid.answer {
-        placing::say_stop(rt, names.job, &ready.job, stop);
-        return Err(Failed::Said);
+        placing::say_stop(rt, names.job, &job, stop);
+        return Err(Said);
     }
     let pages = Pages {
         layout: &laid.layout,
         stores,
-        background: ready.job.background,
+        background: job.background,
     };
-    do_pages(rt, program, names.folder, pages)?;
+    do_pages(rt, program, names.folder, pages, band)?;
     Ok(laid.layout)
 }
 
-fn run_job(rt: &(impl Files + Print + AllocGlobal), program: Program, names: Names<'_>) {
+fn say_verdict(rt: &impl Print, program: Program, name: &[u8], done: Result<Layout, Said>) {
     let (good, bad) = match program {
         Program::Pack => ("packed", "NOT PACKED"),
         Program::Verify => ("verified", "NOT VERIFIED"),
     };
-    match do_job(rt, program, names) {
+    match done {
         Ok(layout) => {
             let images = layout.count;
             let pages = page_folder::count_pages(&layout);
             telling::say_of(
                 rt,
-                names.job,
+                name,
                 format_args!("{good}, images: {images}, pages: {pages}"),
             );
         }
-        Err(failed) => {
-            if let Failed::NoMemory = failed {
-                telling::say_of(rt, names.job, "there is no memory for its pages");
-            }
-            telling::say_of(rt, names.job, bad);
-        }
+        Err(Said) => telling::say_of(rt, name, bad),
     }
+}
+
+// The job whose four names begin at argument i: the job, the two stores, the folder.
+fn run_job(
+    rt: &(impl Files + Env + Print),
+    program: Program,
+    i: usize,
+    text: &mut [u8],
+    symbols: &mut [u8],
+    wording: &mut [u8],
+    band: &mut [u8],
+)
+    requires { i + 3 ≤ 18446744073709551615 }
+{
+    let mut job_name = [0u8; LONGEST];
+    let mut symbols_name = [0u8; LONGEST];
+    let mut wording_name = [0u8; LONGEST];
+    let mut folder_name = [0u8; LONGEST];
+    let a = system::argument(rt, i, &mut job_name);
+    let b = system::argument(rt, i + 1, &mut symbols_name);
+    let c = system::argument(rt, i + 2, &mut wording_name);
+    let d = system::argument(rt, i + 3, &mut folder_name);
+    let names = Names {
+        job: &job_name[..a],
+        symbols: &symbols_name[..b],
+        wording: &wording_name[..c],
+        folder: &folder_name[..d],
+    };
+    let done = do_job(rt, program, names, text, symbols, wording, band);
+    say_verdict(rt, program, names.job, done);
 }
 
 fn say_usage(rt: &impl Print, program: Program) {
@@ -119,28 +144,32 @@ fn say_usage(rt: &impl Print, program: Program) {
     );
 }
 
-pub fn run(rt: &(impl Files + Env + Print + AllocGlobal), program: Program) {
-    let Ok(arguments) = system::arguments(rt) else {
-        let _ = println!(rt; "there is no memory for the arguments");
-        return;
-    };
-    let jobs = arguments.get(1..).unwrap_or(&[]);
-    if jobs.is_empty() || jobs.len() % 4 != 0 {
+// Room for a store.
+fn store_room() -> [u8; STORE]
+    ensures { 1048576 ≡ length result }
+{
+    [0u8; STORE]
+}
+
+pub fn run(rt: &(impl Files + Env + Print), program: Program) {
+    let mut symbols = store_room();
+    let mut wording = store_room();
+    let mut text = [0u8; TEXT];
+    let mut band = [0u8; BAND];
+    let count = system::argument_count(rt);
+    if count < 5 || count % 4 != 1 {
         say_usage(rt, program);
         return;
     }
-    for four in jobs.chunks_exact(4) {
-        if let [job, symbols, wording, folder] = four {
-            run_job(
-                rt,
-                program,
-                Names {
-                    job,
-                    symbols,
-                    wording,
-                    folder,
-                },
-            );
-        }
+    for i in (1..count - 3).step_by(4) {
+        run_job(
+            rt,
+            program,
+            i,
+            &mut text,
+            &mut symbols,
+            &mut wording,
+            &mut band,
+        );
     }
 }

@@ -1,11 +1,11 @@
 // Files: one read whole, and the name of a page's file.
-ghost use Rattle.std.specs.Prelude.{◌≤◌, IfOk, vec_len};
+ghost use Rattle.std.specs.Prelude.{◌≤◌, IfOk, length};
+ghost use Rattle.tool.specs.Counts.{IsPrefixLen};
 
 use crate::system;
 use records::frame::Page;
-use std::alloc::{AllocError, Global};
 use std::fmt::Display;
-use std::io::{ErrorKind, Read};
+use std::io::Read;
 use std::rt::Files;
 use std::{fmt, io};
 
@@ -16,7 +16,6 @@ pub enum Unread {
     Unreadable,
     // It has more bytes than this.
     TooLong(usize),
-    NoMemory,
 }
 
 impl Display for Unread {
@@ -25,18 +24,13 @@ impl Display for Unread {
             Unread::Missing => write!(f, "cannot be opened"),
             Unread::Unreadable => write!(f, "cannot be read"),
             Unread::TooLong(limit) => write!(f, "is longer than {limit} bytes"),
-            Unread::NoMemory => write!(f, "there is no memory to read it"),
         }
     }
 }
 
 impl From<io::Error> for Unread {
-    fn from(error: io::Error) -> Unread {
-        if error.kind() == ErrorKind::OutOfMemory {
-            Unread::NoMemory
-        } else {
-            Unread::Unreadable
-        }
+    fn from(_: io::Error) -> Unread {
+        Unread::Unreadable
     }
 }
 
@@ -46,36 +40,36 @@ pub fn rest<F: Read>(file: &mut F) -> io::Result<bool> {
     Ok(file.read(&mut one)? > 0)
 }
 
-// The whole of a file.
-pub fn read_file<R: Files + AllocGlobal>(
-    rt: &R,
-    path: &[u8],
-    limit: usize,
-) -> Result<Vec<u8>, Unread>
-    ensures { IfOk result (λ bytes. vec_len bytes ≤ limit) }
+// The whole of a file, in the front of the buffer, and how many bytes it has.
+pub fn read_file(rt: &impl Files, path: &[u8], buf: &mut [u8]) -> Result<usize, Unread>
+    ensures { IfOk result (λ n. IsPrefixLen n buf.new) }
 {
-    let file = system::open_read(rt, path).ok_or(Unread::Missing)?;
-    let mut bytes = Vec::new(rt.alloc());
-    file.take((limit as u64).saturating_add(1))
-        .read_to_end(&mut bytes)?;
-    if bytes.len() > limit {
-        return Err(Unread::TooLong(limit));
+    let mut file = system::open_read(rt, path).ok_or(Unread::Missing)?;
+    let n = system::read_full(&mut file, buf);
+    if rest(&mut file)? {
+        return Err(Unread::TooLong(buf.len()));
     }
-    Ok(bytes)
+    Ok(n)
 }
 
-// FOLDER/page-N and an ending. A longer name is cut, which is as far as the programs say it; no system call takes a path that is so long. FOLDER is an
-// argument and no longer than that, and what follows it is ASCII, so the cut never falls inside a character.
-pub fn page_path(
-    alloc: Global,
-    folder: &str,
-    page: Page,
-    ending: &str,
-) -> Result<String, AllocError> {
-    let number = page.0;
-    let path = format!(in alloc; "{folder}/page-{number}{ending}")?;
-    match path.as_str().get(..system::LONGEST) {
-        Some(cut) => String::from_str(alloc, cut),
-        None => Ok(path),
-    }
+// Copies bytes to a place of the buffer, as far as there is room, and answers where they end.
+fn put(buf: &mut [u8], at: usize, part: &[u8]) -> usize
+    requires { at ≤ length buf.old }
+    ensures { IsPrefixLen result buf.new }
+{
+    let n = part.len().min(buf.len() - at);
+    buf[at..at + n].copy_from_slice(&part[..n]);
+    at + n
+}
+
+// FOLDER/page-N and an ending; a page's number has one digit. A name is cut where the buffer ends: with 4096 bytes that is a path which no system
+// call takes.
+pub fn page_path(folder: &[u8], page: Page, ending: &[u8], out: &mut [u8]) -> usize
+    ensures { IsPrefixLen result out.new }
+{
+    let digit = [b'0' + (page.0 % 10) as u8];
+    let a = put(out, 0, folder);
+    let b = put(out, a, b"/page-");
+    let c = put(out, b, &digit);
+    put(out, c, ending)
 }

@@ -3,32 +3,28 @@ ghost use Rattle.std.specs.Prelude.{◌≤◌};
 
 use crate::bands::{Pages, Sheet};
 use crate::files::page_path;
-use crate::{page_files, telling};
+use crate::system::LONGEST;
+use crate::{page_files, system, telling};
 use records::frame::Page;
 use records::layout as layouts;
 use records::layout::Layout;
-use std::alloc::AllocError;
-use std::fs;
 use std::rt::Files;
 
 // A page's own file, and the one that it has until it is read back.
-const OWN: &str = ".rgba";
+const OWN: &[u8] = b".rgba";
 
-const FRESH: &str = ".rgba.new";
+const FRESH: &[u8] = b".rgba.new";
 
-// The files of a job's pages.
+// The files of a job's pages. The folder's name is bytes, which need not be text.
 #[derive(Clone, Copy)]
 pub struct PageFolder<'a> {
-    pub name: &'a str,
+    pub name: &'a [u8],
     pub pages: Pages<'a>,
 }
 
 impl PageFolder<'_> {
     // Whether all went well: what is done with each page, and with each number that the job has no page for. A layout has at most 8 pages.
-    fn each_page<F: FnMut(Page, Option<Sheet<'_>>) -> Result<bool, AllocError>>(
-        &self,
-        mut step: F,
-    ) -> Result<bool, AllocError>
+    fn each_page<F: FnMut(Page, Option<Sheet<'_>>) -> bool>(&self, mut step: F) -> bool
         requires { F.IsAlwaysCallable step }
     {
         let mut good = true;
@@ -37,110 +33,86 @@ impl PageFolder<'_> {
             let pages = self.pages;
             let size = layouts::page_size(*pages.layout, page);
             let sheet = size.ok().map(|size| Sheet { pages, page, size });
-            let went = step(page, sheet)?;
+            let went = step(page, sheet);
             good &= went;
         }
-        Ok(good)
+        good
     }
 
-    fn write_fresh(
-        &self,
-        rt: &(impl Files + Print + AllocGlobal),
-        buf: &mut [u8],
-        sheet: &Sheet<'_>,
-    ) -> Result<bool, AllocError> {
-        let path = page_path(rt.alloc(), self.name, sheet.page, FRESH)?;
-        let written = page_files::write_file(rt, &path, buf, sheet);
-        page_files::say_page(rt, sheet, &path, "written and read back, same", written);
-        Ok(written.is_ok())
+    fn write_fresh(&self, rt: &(impl Files + Print), buf: &mut [u8], sheet: &Sheet<'_>) -> bool {
+        let mut name = [0u8; LONGEST];
+        let n = page_path(self.name, sheet.page, FRESH, &mut name);
+        let path = &name[..n];
+        let written = page_files::write_file(rt, path, buf, sheet);
+        page_files::say_page(rt, sheet, path, "written and read back, same", written);
+        written.is_ok()
     }
 
-    fn place(
-        &self,
-        rt: &(impl Files + Print + AllocGlobal),
-        page: Page,
-    ) -> Result<bool, AllocError> {
-        let fresh = page_path(rt.alloc(), self.name, page, FRESH)?;
-        let own = page_path(rt.alloc(), self.name, page, OWN)?;
-        let moved = fs::rename(rt, &fresh, &own).is_ok();
+    fn place(&self, rt: &(impl Files + Print), page: Page) -> bool {
+        let mut fresh = [0u8; LONGEST];
+        let mut own = [0u8; LONGEST];
+        let a = page_path(self.name, page, FRESH, &mut fresh);
+        let b = page_path(self.name, page, OWN, &mut own);
+        let moved = system::rename(rt, &fresh[..a], &own[..b]);
         if !moved {
-            let _ = println!(rt; "{own}: cannot be put in its place");
+            telling::say_of(rt, &own[..b], "cannot be put in its place");
         }
-        Ok(moved)
+        moved
     }
 
-    // A file that is not there need not be removed.
-    fn remove(
-        &self,
-        rt: &(impl Files + AllocGlobal),
-        page: Page,
-        ending: &str,
-    ) -> Result<(), AllocError> {
-        let path = page_path(rt.alloc(), self.name, page, ending)?;
-        let _ = fs::remove_file(rt, &path);
-        Ok(())
+    fn remove(&self, rt: &impl Files, page: Page, ending: &[u8]) {
+        let mut name = [0u8; LONGEST];
+        let n = page_path(self.name, page, ending, &mut name);
+        system::remove(rt, &name[..n]);
     }
 
-    fn verify(
-        &self,
-        rt: &(impl Files + Print + AllocGlobal),
-        buf: &mut [u8],
-        sheet: &Sheet<'_>,
-    ) -> Result<bool, AllocError> {
-        let path = page_path(rt.alloc(), self.name, sheet.page, OWN)?;
-        let found = page_files::check_file(rt, &path, buf, sheet);
-        page_files::say_page(rt, sheet, &path, "same", found);
-        Ok(found.is_ok())
+    fn verify(&self, rt: &(impl Files + Print), buf: &mut [u8], sheet: &Sheet<'_>) -> bool {
+        let mut name = [0u8; LONGEST];
+        let n = page_path(self.name, sheet.page, OWN, &mut name);
+        let path = &name[..n];
+        let found = page_files::check_file(rt, path, buf, sheet);
+        page_files::say_page(rt, sheet, path, "same", found);
+        found.is_ok()
     }
 
     // A page that the job has not must have no file: nobody checked what such a file shows.
-    fn verify_none(
-        &self,
-        rt: &(impl Files + Print + AllocGlobal),
-        page: Page,
-    ) -> Result<bool, AllocError> {
-        let path = page_path(rt.alloc(), self.name, page, OWN)?;
-        let there = fs::open(rt, &path).is_ok();
+    fn verify_none(&self, rt: &(impl Files + Print), page: Page) -> bool {
+        let mut name = [0u8; LONGEST];
+        let n = page_path(self.name, page, OWN, &mut name);
+        let path = &name[..n];
+        let there = system::open_read(rt, path).is_some();
         if there {
-            let _ = println!(rt; "{path}: the job has no such page");
+            telling::say_of(rt, path, "the job has no such page");
         }
-        Ok(!there)
+        !there
     }
 
-    // The pages are put in their places only once all are written and read back, and else the pages of an earlier run stay.
-    pub(crate) fn pack(
-        &self,
-        rt: &(impl Files + Print + AllocGlobal),
-        buf: &mut [u8],
-    ) -> Result<bool, AllocError> {
+    // The pages are put in their places only once all are written and read back, and else the pages of an earlier run stay. One that cannot be put in its
+    // place does not keep the others.
+    pub fn pack(&self, rt: &(impl Files + Print), buf: &mut [u8]) -> bool {
         let written = self.each_page(|_, sheet| match sheet {
             Some(sheet) => self.write_fresh(rt, buf, &sheet),
-            None => Ok(true),
+            None => true,
         });
-        if let Ok(true) = written {
+        if written {
             return self.each_page(|page, sheet| {
                 if sheet.is_some() {
                     return self.place(rt, page);
                 }
-                self.remove(rt, page, OWN)?;
-                Ok(true)
+                self.remove(rt, page, OWN);
+                true
             });
         }
         self.each_page(|page, sheet| {
             if sheet.is_some() {
-                // One that cannot be named for want of memory does not keep the others.
-                let _ = self.remove(rt, page, FRESH);
+                self.remove(rt, page, FRESH);
             }
-            Ok(true)
-        })?;
-        written
+            true
+        });
+        false
     }
 
-    pub(crate) fn verify_all(
-        &self,
-        rt: &(impl Files + Print + AllocGlobal),
-        buf: &mut [u8],
-    ) -> Result<bool, AllocError> {
+    pub fn verify_all(&self, rt: &(impl Files + Print), buf: &mut [u8]) -> bool {
         self.each_page(|page, sheet| match sheet {
             Some(sheet) => self.verify(rt, buf, &sheet),
             None => self.verify_none(rt, page),

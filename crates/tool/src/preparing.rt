@@ -1,5 +1,9 @@
 // The job and its art, read from their files; what is wrong with them is said.
+ghost use Rattle.std.specs.Prelude.{◌≤◌, IfSome, length};
+ghost use Rattle.tool.specs.Counts.{IsPrefixLen};
+
 use crate::{files, telling};
+use art::memory_rgba8_texture::Stores;
 use job::reading;
 use job::reading::{Job, Malformed};
 use std::rt::Files;
@@ -13,22 +17,18 @@ pub struct Names<'a> {
     pub folder: &'a [u8],
 }
 
-// A job and the two stores of its art.
-#[derive(Drop)]
-pub struct Ready {
+// A job and the two stores of its art, each the front of the buffer that was lent for it.
+#[derive(Clone, Copy)]
+pub struct Ready<'a> {
     pub job: Job,
-    pub symbols: Vec<u8>,
-    pub wording: Vec<u8>,
+    pub stores: Stores<'a>,
 }
 
-// A job's text has at most 64 KiB, and a store at most 1 MiB.
-const LONGEST_TEXT: usize = 65536;
-
-const LONGEST_STORE: usize = 1048576;
-
-fn load(rt: &(impl Files + Print + AllocGlobal), path: &[u8], limit: usize) -> Option<Vec<u8>> {
-    match files::read_file(rt, path, limit) {
-        Ok(bytes) => Some(bytes),
+fn load(rt: &(impl Files + Print), path: &[u8], buf: &mut [u8]) -> Option<usize>
+    ensures { IfSome result (λ n. IsPrefixLen n buf.new) }
+{
+    match files::read_file(rt, path, buf) {
+        Ok(n) => Some(n),
         Err(unread) => {
             telling::say_of(rt, path, unread);
             None
@@ -48,14 +48,23 @@ fn parse(rt: &impl Print, path: &[u8], text: &[u8]) -> Option<Job> {
 }
 
 // All three are read even where one is missing, so that each trouble is said.
-pub fn prepare(rt: &(impl Files + Print + AllocGlobal), names: Names<'_>) -> Option<Ready> {
-    let text = load(rt, names.job, LONGEST_TEXT);
-    let symbols = load(rt, names.symbols, LONGEST_STORE);
-    let wording = load(rt, names.wording, LONGEST_STORE);
-    let job = parse(rt, names.job, &text?)?;
-    Some(Ready {
-        job,
-        symbols: symbols?,
-        wording: wording?,
-    })
+pub fn prepare<'a>(
+    rt: &(impl Files + Print),
+    names: Names<'_>,
+    text: &mut [u8],
+    symbols: &'a mut [u8],
+    wording: &'a mut [u8],
+) -> Option<Ready<'a>>
+    ensures symbols_fit { IfSome result (λ ready. length ready.stores.symbols.now ≤ length symbols.old) }
+    ensures wording_fit { IfSome result (λ ready. length ready.stores.wording.now ≤ length wording.old) }
+{
+    let t = load(rt, names.job, text);
+    let s = load(rt, names.symbols, symbols);
+    let w = load(rt, names.wording, wording);
+    let job = parse(rt, names.job, &text[..t?])?;
+    let stores = Stores {
+        symbols: &symbols[..s?],
+        wording: &wording[..w?],
+    };
+    Some(Ready { job, stores })
 }

@@ -4,7 +4,7 @@ use std::fmt;
 use std::fmt::Display;
 
 // Bytes as they are: a name need not be text.
-fn say(rt: &impl Print, bytes: &[u8]) {
+pub fn say(rt: &impl Print, bytes: &[u8]) {
     let _ = rt.write_all(bytes);
 }
 

@@ -5,7 +5,7 @@ use native.Mathlib.Omega.{arith}
 use mathlib.Core.List.{List, [], ◌∷◌, ◌++◌, append_assoc, append-nil}
 use mathlib.Core.Path.{◌≡◌, refl, sym, ap, ◌∙◌}
 use lib.ListN.{length, get_or, take, drop, length-append, length-drop, take-append-drop}
-use lib.Seq.{take-suc, take_at, drop_at, take-take, take-append-le, length-take-le, drop-drop}
+use lib.Seq.{paste, take-suc, take_at, drop_at, take-length, take-take, take-append-le, length-take-le, drop-drop}
 use Rattle.std.specs.Int.{w32, to_le_bytes}
 use borrow.Rule.Slice.PartMut.{put_mid}
 use Rattle.wire.specs.Bytes.{word_bytes, words_bytes, put}
@@ -118,6 +118,11 @@ put_front old at a b h =
     ∙ sym (append_assoc (take at old ++ a) b rest)
     ∙ ap (λ (z : List ℕ). z ++ rest) (append_assoc (take at old) a b)
     ∙ ap (λ (k : ℕ). take at old ++ (a ++ b) ++ drop k old) e
+
+-- a copy of a whole list
+pub paste-put : (old : List ℕ) (at : ℕ) (a : List ℕ) → paste old at a (length a) ≡ put old at a
+unfolding put
+paste-put old at a = ap (λ (z : List ℕ). take at old ++ z ++ drop (at + length a) old) (take-length a)
 
 -- a part that is lent and comes back
 pub lent-put : (a e : ℕ) (l v : List ℕ) → a ≤ e → e ≤ length l → length v ≡ e - a → put_mid a (e - a) l v ≡ put l a v

@@ -26,10 +26,12 @@ pub fn put_words(bytes: &mut [u8], at: usize, words: &[u32])
     }
 }
 
-// A copy of some bytes, from byte `at` on.
+// A copy of some bytes, from byte `at` on. By bytes: std's copy would have an archive for C ask for memmove.
 pub fn put_bytes(bytes: &mut [u8], at: usize, part: &[u8])
     requires { at + length part.now ≤ length bytes.old }
     ensures { bytes.new ≡ put bytes.old at part.now }
 {
-    bytes[at..at + part.len()].copy_from_slice(part);
+    for (i, b) in part.iter().enumerate() {
+        bytes[at + i] = *b;
+    }
 }

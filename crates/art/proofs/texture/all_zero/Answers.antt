@@ -1,19 +1,25 @@
-use Rattle.std.proofs.Common.{rules, ℕ, ◌≡◌, Bool, true, false}
-use Rattle.std.proofs.lemmas.Iterator.{cases_from_all, YieldsList-from_range}
-use borrow.Author.Tests.{tests}
+use Rattle.std.proofs.Common.{◌≡◌}
 use native.Mathlib.Omega.{arith}
-use mathlib.Core.Path.{refl}
+use mathlib.Core.Path.{sym, ap, ◌∙◌}
+use mathlib.Core.Bool.{not}
+use borrow.Author.Tests.{eq-eqb, ne_eqb}
+use lib.ListN.{get_or}
 use Rattle.art.specs.Search.{is_set, any_set}
-use Rattle.art.proofs.Seen.{none_in_range}
+use Rattle.art.proofs.Seen.{seen, none_seen}
 use Rattle.art.proofs.texture.all_zero.Goals as goal
+
+pub returns-then-bytes-at-ne0 : goal.returns-then-bytes-at-ne0
+unfolding is_set any_set
+returns-then-bytes-at-ne0 c =
+    let a = c.args in
+    let l = c.loop-k in
+    let here = ap (λ n. get_or a.bytes.now n 0) l.invariant.0 in
+    ap not (sym (seen (is_set a.bytes.now a.first a.step) a.count l.k (omega arith) (ap not (ne_eqb _ _ (λ e. c.if-bytes-at-ne0.true (here ∙ e))))))
 
 pub returns : goal.returns
 unfolding is_set any_set
 returns c =
     let a = c.args in
-    let t : ℕ → Bool = is_set a.bytes.now a.first a.step in
-    none_in_range t a.count _
-    (cases_from_all _ _ _ (λ k. t k ≡ false) (λ k. t k ≡ true) c.all.ensures.ran
-    (YieldsList-from_range 0 a.count a.count refl (omega arith))
-    (λ x q k. search (rules, tests))
-    (λ x q k. search (rules, tests)))
+    let l = c.loop-k in
+    let e : a.count ≡ l.k = omega arith in
+    ap not (sym (none_seen (is_set a.bytes.now a.first a.step) a.count (λ k h. ap not (eq-eqb _ _ (l.invariant.1 k (omega arith))))))

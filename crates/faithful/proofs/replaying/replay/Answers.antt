@@ -9,11 +9,11 @@ use Rattle.faithful.proofs.replaying.replay.Goals as goal
 form : (c : Start) → Formed c.args.l.layout.now
 form c = formed c.args.l.layout.now c.args.l.tested
 
-pub new-requires : goal.new-requires
-new-requires c = rw c.config-c.ensures (omega (arith, (form (goal.at.new-requires c).Start).config.wide))
+pub fresh-requires : goal.fresh-requires
+fresh-requires c = rw c.config-c.ensures (omega (arith, (form (goal.at.fresh-requires c).Start).config.wide))
 
 pub loop-r-init : goal.loop-r-init
-loop-r-init c = sofar_none c.args.l.layout.now (form (goal.at.loop-r-init c).Start) _ c.standing-r-items.ensures _ _ refl (rw (sym c.config-c.ensures) c.new.ensures)
+loop-r-init c = sofar_none c.args.l.layout.now (form (goal.at.loop-r-init c).Start) _ c.standing-r-items.ensures _ _ refl (rw (sym c.config-c.ensures) c.fresh.ensures)
 
 pub replay_one-requires : goal.replay_one-requires
 unfolding blank_record

@@ -5,11 +5,13 @@ use mathlib.Core.List.{List, [], ◌∷◌, ◌++◌}
 use lib.ListN.{length, drop, get_or, length-append}
 use borrow.Author.Rules.{rules}
 use borrow.Author.Tests.{tests}
-use Rattle.std.specs.Prelude.{Err}
+use Rattle.std.specs.Prelude.{⊤, Result, Err}
 use Rattle.std.proofs.lemmas.Iterator.Consumers.{YieldsList-from_enumerate, YieldsList-at, YieldsList-turn, YieldsList-end}
 use Rattle.std.proofs.lemmas.Iterator.Splits.{YieldsList-from_slice_split}
 use Rattle.job.specs.Bytes.{is_feed}
 use Rattle.job.specs.Jobs.{unless_malformed, after, lines_in}
+use Rattle.geometry.specs.Words.{reached}
+use Rattle.job.specs.declared.reading.Malformed.{Malformed}
 use Rattle.job.proofs.Readings.{numbered, taken_here, none_left}
 use Rattle.job.proofs.reading.read_lines.Goals.{In-Some, In-None}
 use Rattle.job.proofs.reading.read_lines.Goals as goal
@@ -27,17 +29,17 @@ turn c =
     c.enumerate-i-items.ensures.count))
     c.loop-i.yielded c.loop-i.i-iterator c.loop-i.yielded_by c.next.result c.next.new.self (c.in-Some.i, c.in-Some.line) c.in-Some.is c.next.ensures.steps
 
-pub returns-in_err-state : goal.returns-in_err-state
-returns-in_err-state c =
-    let e : c.from_residual.result ≡ Err c.in_err-state.field-0.0 = search rules in
-    let t = turn (goal.at.returns-in_err-state c).In-Some in
+pub returns-in_err-read_line : goal.returns-in_err-read_line
+returns-in_err-read_line c =
+    let e : c.from_residual.result ≡ Err c.in_err-read_line.field-0.0 = search rules in
+    let t = turn (goal.at.returns-in_err-read_line c).In-Some in
     let k = length c.loop-i.yielded in
     let text = c.args.text.now in
     e
     ∙ sym
     (c.loop-i.invariant.2
     ∙ taken_here text k c.in-Some.i c.in-Some.line.now t.0 t.1 c.loop-i.state c.read_line.ensures
-    ∙ ap (unless_malformed (after (k + 1 + 1) (drop (k + 1) (lines_in text)))) c.in_err-state.was)
+    ∙ ap (λ (r : Result ⊤ Malformed). unless_malformed (after (k + 1 + 1) (drop (k + 1) (lines_in text))) (reached r c.read_line.new.state)) c.in_err-read_line.was)
 
 grown : {A : Type 0} (xs : List A) (x : A) → length (xs ++ x ∷ []) ≡ length xs + 1
 grown xs x = omega (arith, length-append xs (x ∷ []))
@@ -52,8 +54,8 @@ loop-i-preserved c =
       search rules,
       c.loop-i.invariant.2
           ∙ taken_here text k c.in-Some.i c.in-Some.line.now t.0 t.1 c.loop-i.state c.read_line.ensures
-          ∙ ap (unless_malformed (after (k + 1 + 1) (drop (k + 1) (lines_in text)))) c.in_ok-state.was
-          ∙ ap (λ (n : ℕ). after (n + 1) (drop n (lines_in text)) c.in_ok-state.state) (sym one),
+          ∙ ap (λ (r : Result ⊤ Malformed). unless_malformed (after (k + 1 + 1) (drop (k + 1) (lines_in text))) (reached r c.read_line.new.state)) c.in_ok-read_line.was
+          ∙ ap (λ (n : ℕ). after (n + 1) (drop n (lines_in text)) c.read_line.new.state) (sym one),
     )
 
 pub returns : goal.returns

@@ -14,4 +14,4 @@ pub returns : goal.returns
 returns c cells m st =
     let p = c.args.p in
     let on = c.requires.p_bound.0 in
-    put_page _ _ _ p m cells c.args.self.now c.pack.new.self _ on st (c.pack.ensures (cells p) (st.holds p on))
+    put_page _ _ _ p m cells c.args.self.now c.pack.new.self _ on st c.pack.ensures.whole (c.pack.ensures.put (cells p) (st.holds p on))

@@ -21,11 +21,11 @@ returns-then-answers-written c =
     let script = a.words.script.now in
     let s = lent a.stores in
     let old = a.answers.now in
-    let said = take a.written old in
-    let so : length said ≡ a.written = length-take-le a.written old (omega arith) in
+    let said = take a.s.now.written old in
+    let so : length said ≡ a.s.now.written = length-take-le a.s.now.written old (omega arith) in
     let size = c.word-size.ensures in
-    does_stop a.written old (compose_step script s (length old) said a.words.at a.l) NoRoom
-    (compose_stops script s a.words.at a.l (length old) said (omega arith))
+    does_stop a.s.now.written old (compose_step script s (length old) said a.words.at a.s.now.layout) NoRoom
+    (compose_stops script s a.words.at a.s.now.layout (length old) said (omega arith))
 
 pub overflow_cast-more : goal.overflow_cast-more
 overflow_cast-more c = let m = size-at_most c.compose_in-o.result c.word-size.result in let e = c.composed_size-more.ensures in omega arith
@@ -37,8 +37,8 @@ write_number-requires c =
     let k = c.compose_in-o.auto.answers in
     (omega arith, omega arith)
 
-pub overflow_add-result-2 : goal.overflow_add-result-2
-overflow_add-result-2 c = let m = size-at_most c.compose_in-o.result c.word-size.result in let e = c.composed_size-more.ensures in omega arith
+pub overflow_add-s-2 : goal.overflow_add-s-2
+overflow_add-s-2 c = let m = size-at_most c.compose_in-o.result c.word-size.result in let e = c.composed_size-more.ensures in omega arith
 
 pub returns : goal.returns
 unfolding next_at words_of
@@ -47,15 +47,15 @@ returns c =
     let script = a.words.script.now in
     let s = lent a.stores in
     let old = a.answers.now in
-    let said = take a.written old in
-    let so : length said ≡ a.written = length-take-le a.written old (omega arith) in
+    let said = take a.s.now.written old in
+    let so : length said ≡ a.s.now.written = length-take-le a.s.now.written old (omega arith) in
     let size = c.word-size.ensures in
     let m = c.composed_size-more.ensures ∙ (λ i. composed_size c.compose_in-o.result (size i)) in
-    let long = compose_said-long script s a.words.at a.l in
+    let long = compose_said-long script s a.words.at a.s.now.layout in
     let same = ap (λ o. composed_size o (word script a.words.at 8)) c.compose_in-o.ensures.value in
-    let to : a.written + 8 + c.composed_size-more.result ≡ a.written + length (compose_said script s a.words.at a.l) = omega arith in
-    does_go a.written old _ (compose_step script s (length old) said a.words.at a.l) _ a.l (a.words.at + 36) (compose_said script s a.words.at a.l)
-    (compose_goes script s a.words.at a.l (length old) said (omega arith))
-    (λ i. Ok (record { layout = a.l; next = a.words.at + 36; written = to i }))
-    (compose_written script s a.words.at a.l old a.written c.compose_in-o.result c.number.result c.composed_size-more.result
+    let to : a.s.now.written + 8 + c.composed_size-more.result ≡ a.s.now.written + length (compose_said script s a.words.at a.s.now.layout) = omega arith in
+    does_go a.s.now.written old _ (compose_step script s (length old) said a.words.at a.s.now.layout) _ a.s.now.layout (a.words.at + 36) (compose_said script s a.words.at a.s.now.layout)
+    (compose_goes script s a.words.at a.s.now.layout (length old) said (omega arith))
+    (λ i. Ok (record { layout = a.s.now.layout; next = a.words.at + 36; written = to i }))
+    (compose_written script s a.words.at a.s.now.layout old a.s.now.written c.compose_in-o.result c.number.result c.composed_size-more.result
     c.compose_in-o.ensures.value c.number.ensures.composed m c.compose_in-o.ensures.answers_after c.write_number.ensures (omega arith))

@@ -16,11 +16,11 @@ returns-in_err-a c =
     let script = a.words.script.now in
     let s = lent a.stores in
     let old = a.answers.now in
-    let said = take a.written old in
+    let said = take a.s.now.written old in
     let result : c.from_residual.result ≡ Err c.in_err-a.field-0.0 = search rules in
     let past = ap (check_past script a.words.at) (sym c.check_source-source.ensures) ∙ c.in_err-a.ensures.0 in
     rw (result, c.in_err-a.ensures.1)
-    (does_stop a.written old (check_step script s (length old) said a.words.at a.l) PastSource (check_stops script s (length old) said a.words.at a.l past))
+    (does_stop a.s.now.written old (check_step script s (length old) said a.words.at a.s.now.layout) PastSource (check_stops script s (length old) said a.words.at a.s.now.layout past))
 
 pub say-requires : goal.say-requires
 say-requires c = (c.in_ok-a.ensures.1.few, c.requires)
@@ -32,9 +32,9 @@ returns c =
     let script = a.words.script.now in
     let s = lent a.stores in
     let old = a.answers.now in
-    let said = take a.written old in
+    let said = take a.s.now.written old in
     let source = c.check_source-source.ensures in
     let none = ap (check_past script a.words.at) (sym source) ∙ c.in_ok-a.ensures.0 in
-    let numbers = c.in_ok-a.ensures.1.words ∙ ap (check_numbers script s a.words.at a.l) source in
-    does_as a.written old c.say.result (check_step script s (length old) said a.words.at a.l) _ _
-    (check_goes script s (length old) said a.words.at a.l _ none numbers) c.say.ensures
+    let numbers = c.in_ok-a.ensures.1.words ∙ ap (check_numbers script s a.words.at a.s.now.layout) source in
+    does_as a.s.now.written old _ (check_step script s (length old) said a.words.at a.s.now.layout) _ _
+    (check_goes script s (length old) said a.words.at a.s.now.layout _ none numbers) c.say.ensures

@@ -49,7 +49,7 @@ loop-s-smaller c =
     let a = c.args in
     let s = lent a.stores in
     let k = c.loop-s in
-    let o = (goes a.script.now s a.answers.now k.answers k.s.layout k.s.next k.s.written k.invariant c.loop-s-test.true _ c.in-Ok.after c.in-Ok.ensures).1 in
+    let o = (goes a.script.now s a.answers.now k.answers k.s.layout k.s.next k.s.written k.invariant c.loop-s-test.true _ c.step.new.s c.in-Ok.ensures).1 in
     omega arith
 
 pub loop-s-preserved : goal.loop-s-preserved
@@ -57,7 +57,7 @@ loop-s-preserved c =
     let a = c.args in
     let s = lent a.stores in
     let k = c.loop-s in
-    (goes a.script.now s a.answers.now k.answers k.s.layout k.s.next k.s.written k.invariant c.loop-s-test.true _ c.in-Ok.after c.in-Ok.ensures).0
+    (goes a.script.now s a.answers.now k.answers k.s.layout k.s.next k.s.written k.invariant c.loop-s-test.true _ c.step.new.s c.in-Ok.ensures).0
 
 pub finish-requires-2 : goal.finish-requires-2
 finish-requires-2 c =

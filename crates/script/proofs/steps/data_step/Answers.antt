@@ -21,5 +21,5 @@ unfolding data_step next_at words_of
 returns c =
     let a = c.args in
     let n = c.word-n.ensures in
-    let w : a.written ≡ a.written + 0 = omega arith in
-    rw (le-ltb (length a.words.script.now) (a.words.at + 8 + 4 * word_at a.words.script.now (a.words.at + 4)) (omega arith)) (λ i. Ok (record { layout = a.l; next = a.words.at + 8 + 4 * n i; written = w i }))
+    let w : a.s.now.written ≡ a.s.now.written + 0 = omega arith in
+    rw (le-ltb (length a.words.script.now) (a.words.at + 8 + 4 * word_at a.words.script.now (a.words.at + 4)) (omega arith)) (λ i. Ok (record { layout = a.s.now.layout; next = a.words.at + 8 + 4 * n i; written = w i }))

@@ -25,23 +25,23 @@ long c =
     let e = answer-long (take a.count a.words) [] in
     omega arith
 
-before : (c : Start) → length (take c.args.written c.args.answers.now) ≡ c.args.written
-before c = length-take-le c.args.written c.args.answers.now (omega arith)
+before : (c : Start) → length (take c.args.s.now.written c.args.answers.now) ≡ c.args.s.now.written
+before c = length-take-le c.args.s.now.written c.args.answers.now (omega arith)
 
-pub returns-then-answers-written : goal.returns-then-answers-written
-returns-then-answers-written c =
+pub returns-then-answers-s : goal.returns-then-answers-s
+returns-then-answers-s c =
     let a = c.args in
-    let n = long (goal.at.returns-then-answers-written c).Start in
-    let w = before (goal.at.returns-then-answers-written c).Start in
-    does_stop a.written a.answers.now _ NoRoom
-    (say_stops (length a.answers.now) (take a.written a.answers.now) a.l a.next (bytes (goal.at.returns-then-answers-written c).Start) (omega arith))
+    let n = long (goal.at.returns-then-answers-s c).Start in
+    let w = before (goal.at.returns-then-answers-s c).Start in
+    does_stop a.s.now.written a.answers.now _ NoRoom
+    (say_stops (length a.answers.now) (take a.s.now.written a.answers.now) a.s.now.layout a.next (bytes (goal.at.returns-then-answers-s c).Start) (omega arith))
 
 pub returns : goal.returns
 returns c =
     let a = c.args in
     let n = long (goal.at.returns c).Start in
     let w = before (goal.at.returns c).Start in
-    let e = c.write_answer-to.ensures in
-    does_go a.written a.answers.now _ _ _ a.l a.next (bytes (goal.at.returns c).Start)
-    (say_fits (length a.answers.now) (take a.written a.answers.now) a.l a.next (bytes (goal.at.returns c).Start) (omega arith))
-    (λ i. Ok (record { layout = a.l; next = a.next; written = e.value i })) e.answers_after
+    let e = c.write_answer-s.ensures in
+    does_go a.s.now.written a.answers.now _ _ _ a.s.now.layout a.next (bytes (goal.at.returns c).Start)
+    (say_fits (length a.answers.now) (take a.s.now.written a.answers.now) a.s.now.layout a.next (bytes (goal.at.returns c).Start) (omega arith))
+    (λ i. Ok (record { layout = a.s.now.layout; next = a.next; written = e.value i })) e.answers_after

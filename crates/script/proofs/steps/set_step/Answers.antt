@@ -21,6 +21,6 @@ returns c =
     let a = c.args in
     let f = c.is_field.ensures ∙ ap is_field c.word-field.ensures in
     let some = sym f ∙ c.if-not-is_field.false in
-    let l = c.layout_with-after.ensures ∙ (λ i. layout_with a.l (c.word-field.ensures i) (c.word-place.ensures i) (c.word-n.ensures i)) in
-    let w : a.written ≡ a.written + 0 = omega arith in
+    let l = c.layout_with-s.ensures ∙ (λ i. layout_with a.s.now.layout (c.word-field.ensures i) (c.word-place.ensures i) (c.word-n.ensures i)) in
+    let w : a.s.now.written ≡ a.s.now.written + 0 = omega arith in
     rw some (λ i. Ok (record { layout = l i; next = a.words.at + 16; written = w i }))
