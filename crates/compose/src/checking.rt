@@ -35,6 +35,7 @@ fn first_off(shown: &[u8], wanted: &[u8], base: usize, w: u32) -> Option<u32>
 {
     let from = 4 * base;
     let to = from + 4 * w as usize;
+    // Most rows are the wanted ones, which all their bytes at once tell faster than pixel after pixel.
     if shown[from..to] == wanted[from..to] {
         return None;
     }
